@@ -1,0 +1,4 @@
+pub mod Views
+pub mod Casts
+pub mod Signed
+pub mod Product

@@ -1,0 +1,3 @@
+pub mod F32
+pub mod Extremes
+pub mod Words
