@@ -1,0 +1,3 @@
+pub mod Orders
+pub mod Conversions
+pub mod Refusals

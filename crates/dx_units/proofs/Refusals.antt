@@ -1,0 +1,44 @@
+-- What an entry answers, by its tests, over plain variables. Assumes nothing.
+use mathlib.Core.Path.{_≡_, sym, subst}
+use mathlib.Core.Bool.{Bool, true, false, _&&_}
+use Prim.Native.Nat.{ℕ, _≤_, _<_}
+use borrow.Author.Tests.{le-leb, lt-leb}
+use lib.Dec.{T, leb, leb→le}
+use lib.Ieee.Fits.{and-l, and-r}
+use lib.Ieee.{Float, le}
+use Rattle.numbers.specs.F32.{decimal}
+use Rattle.dx_units.specs.declared.Converted.the-variants.{Value, Refused}
+use Rattle.dx_units.specs.Answers.{fieldNumber, parameterNumber, firstOf, convertedFor, frequencyFits}
+
+-- a field alone: 6 above its largest number
+pub field-fits : (n largest : ℕ) {r x : Float} → n ≤ largest → r ≡ x → Value r ≡ convertedFor (fieldNumber (leb n largest)) x
+field-fits n largest h e = simp (le-leb n largest h, e)
+
+pub field-above : (n largest : ℕ) (x : Float) → largest < n → Refused 6 ≡ convertedFor (fieldNumber (leb n largest)) x
+field-above n largest x h = simp (lt-leb n largest h)
+
+-- with a parameter after it: 7 for a NaN and outside its range
+pub field-first : (fits : Bool) (m : ℕ) (v : Float) → fits ≡ false → Refused 6 ≡ convertedFor (firstOf (fieldNumber fits) m) v
+field-first fits m v e = simp e
+
+module _ (fits : Bool) (x : Float) (largest : ℕ) (v : Float) (e : fits ≡ true) where
+  pub parameter-inside : {r : Float} → le (decimal 0 0) x ≡ true → le x (decimal largest 0) ≡ true → r ≡ v
+      → Value r ≡ convertedFor (firstOf (fieldNumber fits) (parameterNumber x largest)) v
+  parameter-inside l h er = simp (e, l, h, er)
+
+  pub parameter-above : le (decimal 0 0) x ≡ true → le x (decimal largest 0) ≡ false
+      → Refused 7 ≡ convertedFor (firstOf (fieldNumber fits) (parameterNumber x largest)) v
+  parameter-above l h = simp (e, l, h)
+
+  pub parameter-below : le (decimal 0 0) x ≡ false → Refused 7 ≡ convertedFor (firstOf (fieldNumber fits) (parameterNumber x largest)) v
+  parameter-below l = simp (e, l)
+
+-- the fields of a frequency that fit are in bounds of the table
+pub fits-coarse : (mode coarse fine detune : ℕ) → frequencyFits mode coarse fine detune ≡ true → coarse ≤ 31
+unfolding frequencyFits
+fits-coarse mode coarse fine detune e =
+    let m = leb mode 1 in
+    let k = leb coarse 31 in
+    let f = leb fine 99 in
+    let d = leb detune 14 in
+    leb→le coarse 31 (and-r m k (and-l (m && k) f (and-l (m && k && f) d (subst T (sym e) tt))))

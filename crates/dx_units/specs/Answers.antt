@@ -1,0 +1,102 @@
+-- What each conversion's entry answers: document 01's number, and by it a value or the refusal. Definitions only.
+use mathlib.Core.Bool.{Bool, _&&_, cond}
+use Prim.Native.Nat.{ℕ, zero, suc}
+use lib.Dec.{leb}
+use lib.Ieee.{Float, le}
+use Rattle.numbers.specs.F32.{decimal}
+use Rattle.units.specs.Tables.{lutPitchRatioHigh, lutPitchRatioLow}
+use Rattle.dx_units.specs.declared.Level.{Level}
+use Rattle.dx_units.specs.declared.Level.the-variants as level
+use Rattle.dx_units.specs.declared.Converted.{Converted}
+use Rattle.dx_units.specs.declared.Converted.the-variants as converted
+use Rattle.dx_units.specs.declared.Delay.{Delay}
+use Rattle.dx_units.specs.declared.Delay.the-variants as delayed
+use Rattle.dx_units.specs.declared.Increments.{Increments}
+use Rattle.dx_units.specs.declared.Ratio.{Ratio}
+use Rattle.dx_units.specs.declared.Tuning.{Tuning}
+use Rattle.dx_units.specs.declared.Tuning.the-variants as tuned
+use Rattle.dx_units.specs.Units.{operatorLevel, pitchEnvelopeLevel, operatorEnvelopeIncrement, pitchEnvelopeIncrement, lfoFrequency, lfoDelay}
+use Rattle.dx_units.specs.Units.{normalizedVelocity, rateScaling, ampModSensitivity, pitchModSensitivity, keyboardScaling, frequencyRatio}
+
+-- ---- document 01's number of an answer: 0 where nothing is refused
+
+-- 6 for a field above its largest number
+abbrev pub fieldNumber : Bool → ℕ
+fieldNumber fits = cond fits 0 6
+
+-- 7 for a parameter that is a NaN or outside 0 to its largest
+abbrev pub parameterNumber : Float → ℕ → ℕ
+parameterNumber x largest = cond (le (decimal 0 0) x && le x (decimal largest 0)) 0 7
+
+-- the first that is not 0, in ascending order
+abbrev pub firstOf : ℕ → ℕ → ℕ
+firstOf zero other = other
+firstOf (suc n) other = suc n
+
+-- the largest numbers of keyboard scaling
+unfoldable pub keyboardFits : ℕ → ℕ → ℕ → ℕ → ℕ → Bool
+keyboardFits leftDepth rightDepth leftCurve rightCurve breakPoint =
+    leb leftDepth 99 && leb rightDepth 99 && leb leftCurve 3 && leb rightCurve 3 && leb breakPoint 99
+
+-- the largest numbers of a frequency
+unfoldable pub frequencyFits : ℕ → ℕ → ℕ → ℕ → Bool
+frequencyFits mode coarse fine detune = leb mode 1 && leb coarse 31 && leb fine 99 && leb detune 14
+
+-- ---- the case and the value that a number stands for: 0 for a value, any other for that refusal
+
+abbrev pub levelFor : ℕ → ℕ → Level
+levelFor zero value = level.Value value
+levelFor (suc n) value = level.Refused (suc n)
+
+abbrev pub convertedFor : ℕ → Float → Converted
+convertedFor zero value = converted.Value value
+convertedFor (suc n) value = converted.Refused (suc n)
+
+abbrev pub delayFor : ℕ → Increments → Delay
+delayFor zero value = delayed.Value value
+delayFor (suc n) value = delayed.Refused (suc n)
+
+abbrev pub tuningFor : ℕ → Ratio → Tuning
+tuningFor zero value = tuned.Value value
+tuningFor (suc n) value = tuned.Refused (suc n)
+
+-- ---- the answers
+
+unfoldable pub operatorLevelAnswer : ℕ → Level
+operatorLevelAnswer n = levelFor (fieldNumber (leb n 99)) (operatorLevel n)
+
+unfoldable pub pitchEnvelopeLevelAnswer : ℕ → Converted
+pitchEnvelopeLevelAnswer n = convertedFor (fieldNumber (leb n 99)) (pitchEnvelopeLevel n)
+
+unfoldable pub operatorEnvelopeIncrementAnswer : ℕ → Converted
+operatorEnvelopeIncrementAnswer rate = convertedFor (fieldNumber (leb rate 99)) (operatorEnvelopeIncrement rate)
+
+unfoldable pub pitchEnvelopeIncrementAnswer : ℕ → Converted
+pitchEnvelopeIncrementAnswer rate = convertedFor (fieldNumber (leb rate 99)) (pitchEnvelopeIncrement rate)
+
+unfoldable pub lfoFrequencyAnswer : ℕ → Converted
+lfoFrequencyAnswer rate = convertedFor (fieldNumber (leb rate 99)) (lfoFrequency rate)
+
+unfoldable pub lfoDelayAnswer : ℕ → Delay
+lfoDelayAnswer n = delayFor (fieldNumber (leb n 99)) (lfoDelay n)
+
+unfoldable pub normalizeVelocityAnswer : Float → Converted
+normalizeVelocityAnswer velocity = convertedFor (parameterNumber velocity 1) (normalizedVelocity velocity)
+
+unfoldable pub rateScalingAnswer : Float → ℕ → Converted
+rateScalingAnswer note scaling = convertedFor (firstOf (fieldNumber (leb scaling 7)) (parameterNumber note 127)) (rateScaling note scaling)
+
+unfoldable pub ampModSensitivityAnswer : ℕ → Converted
+ampModSensitivityAnswer sensitivity = convertedFor (fieldNumber (leb sensitivity 3)) (ampModSensitivity sensitivity)
+
+unfoldable pub pitchModSensitivityAnswer : ℕ → Converted
+pitchModSensitivityAnswer sensitivity = convertedFor (fieldNumber (leb sensitivity 7)) (pitchModSensitivity sensitivity)
+
+unfoldable pub keyboardScalingAnswer : Float → ℕ → ℕ → ℕ → ℕ → ℕ → Converted
+keyboardScalingAnswer note leftDepth rightDepth leftCurve rightCurve breakPoint =
+    convertedFor (firstOf (fieldNumber (keyboardFits leftDepth rightDepth leftCurve rightCurve breakPoint)) (parameterNumber note 127))
+    (keyboardScaling note leftDepth rightDepth leftCurve rightCurve breakPoint)
+
+unfoldable pub frequencyRatioAnswer : ℕ → ℕ → ℕ → ℕ → Tuning
+frequencyRatioAnswer mode coarse fine detune =
+    tuningFor (fieldNumber (frequencyFits mode coarse fine detune)) (frequencyRatio lutPitchRatioHigh lutPitchRatioLow mode coarse fine detune)

@@ -1,0 +1,4 @@
+pub mod Tables
+pub mod Pow
+pub mod Units
+pub mod Answers

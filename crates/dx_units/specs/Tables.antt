@@ -1,0 +1,89 @@
+-- The tables of dx_units.rs, number for number. Definitions only.
+use mathlib.Core.List.{List, [], _∷_}
+use lib.Ieee.{Float}
+use Rattle.numbers.specs.F32.{decimal, minusDecimal}
+
+-- the semitones of each coarse number
+unfoldable pub lutCoarse : List Float
+unfolding decimal minusDecimal
+lutCoarse =
+    minusDecimal 12000000 6 ∷
+    decimal 0 6 ∷
+    decimal 12000000 6 ∷
+    decimal 19019550 6 ∷
+    decimal 24000000 6 ∷
+    decimal 27863137 6 ∷
+    decimal 31019550 6 ∷
+    decimal 33688259 6 ∷
+    decimal 36000000 6 ∷
+    decimal 38039100 6 ∷
+    decimal 39863137 6 ∷
+    decimal 41513180 6 ∷
+    decimal 43019550 6 ∷
+    decimal 44405276 6 ∷
+    decimal 45688259 6 ∷
+    decimal 46882687 6 ∷
+    decimal 48000000 6 ∷
+    decimal 49049554 6 ∷
+    decimal 50039100 6 ∷
+    decimal 50975130 6 ∷
+    decimal 51863137 6 ∷
+    decimal 52707809 6 ∷
+    decimal 53513180 6 ∷
+    decimal 54282743 6 ∷
+    decimal 55019550 6 ∷
+    decimal 55726274 6 ∷
+    decimal 56405276 6 ∷
+    decimal 57058650 6 ∷
+    decimal 57688259 6 ∷
+    decimal 58295772 6 ∷
+    decimal 58882687 6 ∷
+    decimal 59450356 6 ∷
+    []
+
+-- of each amplitude modulation sensitivity
+unfoldable pub lutAmpModSensitivity : List Float
+unfolding decimal
+lutAmpModSensitivity =
+    decimal 0 1 ∷
+    decimal 2588 4 ∷
+    decimal 4274 4 ∷
+    decimal 10 1 ∷
+    []
+
+-- of each pitch modulation sensitivity
+unfoldable pub lutPitchModSensitivity : List Float
+unfolding decimal
+lutPitchModSensitivity =
+    decimal 0 1 ∷
+    decimal 781250 7 ∷
+    decimal 1562500 7 ∷
+    decimal 2578125 7 ∷
+    decimal 4296875 7 ∷
+    decimal 7187500 7 ∷
+    decimal 11953125 7 ∷
+    decimal 20 1 ∷
+    []
+
+-- the cube root of each 16th part of 1
+unfoldable pub lutCubeRoot : List Float
+unfolding decimal
+lutCubeRoot =
+    decimal 0 1 ∷
+    decimal 39685062976 11 ∷
+    decimal 50000000000 11 ∷
+    decimal 57235744065 11 ∷
+    decimal 62996081605 11 ∷
+    decimal 67860466725 11 ∷
+    decimal 72112502092 11 ∷
+    decimal 75914745216 11 ∷
+    decimal 79370070937 11 ∷
+    decimal 82548197054 11 ∷
+    decimal 85498810729 11 ∷
+    decimal 88258719406 11 ∷
+    decimal 90856038354 11 ∷
+    decimal 93312785379 11 ∷
+    decimal 95646563396 11 ∷
+    decimal 97871693135 11 ∷
+    decimal 10 1 ∷
+    []

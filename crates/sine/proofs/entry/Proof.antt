@@ -1,0 +1,25 @@
+-- `sine::entry` meets its contract. Assumes nothing.
+use mathlib.Core.Path.{refl, sym, subst}
+use mathlib.Core.List.{List}
+use lib.Dec.{T}
+use lib.ListN.{getD}
+use lib.Ieee.{Float, nan}
+use Rattle.sine.specs.Bound.{within}
+use Rattle.sine.proofs.Bounded.{entry-within}
+use borrow.Author.Needs.{needs}
+use Rattle.sine.proofs.entry.Statement.{statement}
+use Rattle.sine.proofs.entry.Tie as tie
+
+mul-result : tie.Need-mul-result
+mul-result c = search needs
+
+element-copy-out-result : tie.Need-element-copy-out-result
+element-copy-out-result c = search needs
+
+returns : tie.Need-returns
+returns c =
+    let s = c .before in
+    (refl, λ e. subst (λ (l : List Float). T (within (getD l (s .args .i) nan))) (sym e) (entry-within (s .args .i) (s .pre)))
+
+pub entry-spec : {M : Type 1} → statement M
+entry-spec = tie.close (tie.spec mul-result element-copy-out-result returns)

@@ -1,0 +1,46 @@
+-- `sine::line` meets its contract. Assumes nothing.
+use mathlib.Core.Path.{sym, subst}
+use Prim.Native.Nat.{_%_}
+use native.Mathlib.Omega.{arith}
+use borrow.Author.Tests.{le-leb}
+use denote.Ref.{now}
+use lib.Dec.{T}
+use lib.Ieee.{ofBits, inFloat}
+use Rattle.numbers.specs.F32.{decimal}
+use Rattle.sine.proofs.Fraction.{line-is}
+use borrow.Author.Needs.{needs}
+use Rattle.sine.proofs.line.Statement.{statement}
+use Rattle.sine.proofs.line.Tie as tie
+
+cast-integral : tie.Need-cast-integral
+cast-integral c = search needs
+
+int-to-float-fractional : tie.Need-int-to-float-fractional
+unfolding inFloat
+int-to-float-fractional c = subst T (sym (le-leb (c .before .args .phase % 8388608) 16777216 (omega arith))) tt
+
+entry-requires : tie.Need-entry-requires
+entry-requires c κs = search needs
+
+add-entry : tie.Need-add-entry
+add-entry c = search needs
+
+entry-requires-2 : tie.Need-entry-requires-2
+entry-requires-2 c κs = search needs
+
+returns : tie.Need-returns
+unfolding decimal ofBits
+returns c =
+    let s = c .before .before .before in
+    line-is (now (s .args .lut)) (s .args .phase) (c .before .entry .ensures .0) (c .entry2 .ensures .0)
+
+pub line-spec : {M : Type 1} → statement M
+line-spec =
+    tie.close
+    (tie.spec
+    cast-integral
+    int-to-float-fractional
+    entry-requires
+    add-entry
+    entry-requires-2
+    returns)

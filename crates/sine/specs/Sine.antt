@@ -1,0 +1,27 @@
+-- The sine by lookup, one rounding per written operation, in the Rust's order. Definitions only.
+use mathlib.Core.List.{List}
+use Prim.Native.Nat.{ℕ, _+_, _/_, _^_}
+use lib.ListN.{getD}
+use lib.Ieee.{Float, nan, toUnsigned}
+use Rattle.numbers.specs.F32.{_⊕_, _⊖_, _⊗_, _⊘_, decimal, asFloat}
+use Rattle.numbers.specs.Words.{sum32, product32, shifted32}
+use Rattle.utils.specs.Interpolate.{interpolatedWrap}
+
+-- the sine at a phase in turns: the table has 512 places to the turn
+unfoldable pub sineOf : List Float → Float → Float
+sineOf lut phase = interpolatedWrap lut phase (decimal 512 0)
+
+-- a phase of 32 bits plus a modulation in turns, wrapped: the modulation is lifted by 32 and cut to 32 bits in steps of 1 / 2 ^ 26
+unfoldable pub modulated : ℕ → Float → ℕ
+modulated phase pm = sum32 phase (product32 (toUnsigned 32 ((pm ⊕ decimal 32 0) ⊗ (decimal 4294967296 0 ⊘ decimal 64 0))) 64)
+
+-- the straight line between two entries: a phase's highest nine bits name the first, the others say how far on
+unfoldable pub phaseLine : List Float → ℕ → Float
+phaseLine lut phase =
+    let a = getD lut (phase / 2 ^ 23) nan in
+    let b = getD lut (phase / 2 ^ 23 + 1) nan in
+    a ⊕ (b ⊖ a) ⊗ (asFloat (shifted32 phase 9) ⊘ decimal 4294967296 0)
+
+-- the sine at a phase of 32 bits with a modulation
+unfoldable pub sinePm : List Float → ℕ → Float → Float
+sinePm lut phase pm = phaseLine lut (modulated phase pm)

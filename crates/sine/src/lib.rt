@@ -1,0 +1,64 @@
+// The sine, by lookup in a table of one turn. It follows resources/sine.rs and sine_oscillator.rs. The
+// table is lent, so that a caller makes it once for a whole block. Each function has an answer for
+// every input, and its promise names it.
+ghost use mathlib.Core.Path.{_≡_};
+ghost use Prim.Native.Nat.{_<_};
+ghost use lib.Dec.{T};
+ghost use lib.ListN.{getD};
+ghost use lib.Ieee.{nan};
+ghost use Rattle.sine.specs.Table.{lutSine};
+ghost use Rattle.sine.specs.Sine.{sineOf, modulated, phaseLine, sinePm};
+ghost use Rattle.sine.specs.Bound.{within};
+
+mod table;
+
+// The table, to be made a local once and lent from there.
+pub fn lut_sine() -> [f32; 641]
+    ensures { λ r. ⌜ r ≡ lutSine ⌝ }
+{
+    table::LUT_SINE
+}
+
+// The sine at a phase in turns, of which the whole part is dropped; a negative phase counts as 0.
+pub fn sine(lut: &[f32; 641], phase: f32) -> f32
+    ensures { λ r. ⌜ r ≡ sineOf (now (lut .entry)) phase ⌝ }
+{
+    utils::interpolate_wrap(lut, phase, 512.0)
+}
+
+// The sine at a phase of 32 bits plus a modulation in turns, from -32 up to 32: beyond that, and at a
+// NaN, Rust's cast decides.
+pub fn sine_pm(lut: &[f32; 641], phase: u32, pm: f32) -> f32
+    ensures { λ r. ⌜ r ≡ sinePm (now (lut .entry)) phase pm ⌝ }
+{
+    line(lut, modulate(phase, pm))
+}
+
+// The phase plus the modulation, wrapped.
+fn modulate(phase: u32, pm: f32) -> u32
+    ensures { λ r. ⌜ r ≡ modulated phase pm ⌝ }
+{
+    let scale = 4294967296.0 / 64.0;
+    let turns = numbers::f32_as_u32((pm + 32.0) * scale);
+    numbers::wrapping_add_u32(phase, turns << 6)
+}
+
+// The straight line between the two entries around a phase. Its lowest 23 bits over 2^23 are an f32,
+// with no rounding: the same as Rust's quotient by 2^32.
+fn line(lut: &[f32; 641], phase: u32) -> f32
+    ensures { λ r. ⌜ r ≡ phaseLine (now (lut .entry)) phase ⌝ }
+{
+    let integral = (phase >> 23) as usize;
+    let fractional = (phase % 8388608) as f32 / 8388608.0;
+    let a = entry(lut, integral);
+    let b = entry(lut, integral + 1);
+    a + (b - a) * fractional
+}
+
+// An entry. Where the lent table is the sine's, it is finite and from -1 to 1.
+fn entry(lut: &[f32; 641], i: usize) -> f32
+    requires { ⌜ i < 641 ⌝ }
+    ensures { λ r. ⌜ (r ≡ getD (now (lut .entry)) i nan) × (now (lut .entry) ≡ lutSine → T (within r)) ⌝ }
+{
+    lut[i]
+}
