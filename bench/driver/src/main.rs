@@ -1,0 +1,165 @@
+//! Times the proved code and the original Rust on the same work, and holds their results to be equal.
+
+use plaits::fm::algorithms::{Algorithms, OPCODES_6_32};
+use plaits::fm::patch::{Envelope, Operator, Patch};
+use plaits::oscillator::sine_oscillator::sine_pm;
+use std::hint::black_box;
+use std::time::Instant;
+
+unsafe extern "C" {
+    fn bench_sine_pm(phase: u32, step: u32, pm: f32, pm_step: f32, out: *mut f32, len: usize);
+    fn bench_unpack(bytes: *const u8, len: usize) -> u8;
+    fn bench_pack(bytes: *const u8, len: usize) -> u8;
+    fn bench_validate(dump: *const u8, len: usize) -> u8;
+    fn bench_compile(a: u8, b: u8, c: u8, d: u8, e: u8, f: u8) -> u8;
+}
+
+/// Rounds in turn: each side does the work, and the least time of each counts.
+fn race(what: &str, per: f64, mut ours: impl FnMut(), mut rust: impl FnMut()) {
+    let (mut least_ours, mut least_rust) = (f64::MAX, f64::MAX);
+    for _ in 0..100 {
+        let start = Instant::now();
+        ours();
+        least_ours = least_ours.min(start.elapsed().as_secs_f64());
+        let start = Instant::now();
+        rust();
+        least_rust = least_rust.min(start.elapsed().as_secs_f64());
+    }
+    let nanos = |seconds: f64| seconds * 1e9 / per;
+    println!("| {what} | {:.2} | {:.2} | {:.2} |", nanos(least_ours), nanos(least_rust), least_ours / least_rust);
+}
+
+fn sine_block(samples: usize) {
+    let blocks = 100_000 / samples;
+    let (mut a, mut b) = (vec![0f32; samples], vec![0f32; samples]);
+    let (phase, step, pm, pm_step) = (black_box(77u32), black_box(12_345_678u32), black_box(-0.3f32), black_box(0.001f32));
+    race(
+        &format!("`sine_pm`, blocks of {samples}: ns a sample"),
+        (blocks * samples) as f64,
+        || {
+            for _ in 0..blocks {
+                unsafe { bench_sine_pm(phase, step, pm, pm_step, a.as_mut_ptr(), samples) };
+                black_box(&a);
+            }
+        },
+        || {
+            for _ in 0..blocks {
+                let (mut phase, mut pm) = (phase, pm);
+                for out in b.iter_mut() {
+                    phase = phase.wrapping_add(step);
+                    *out = sine_pm(phase, pm);
+                    pm += pm_step;
+                }
+                black_box(&b);
+            }
+        },
+    );
+    assert!(a.iter().zip(&b).all(|(x, y)| x.to_bits() == y.to_bits()), "the two sides differ");
+}
+
+fn mixed_envelope(e: &Envelope) -> u8 {
+    e.rate.iter().chain(&e.level).fold(0, |all, x| all ^ x)
+}
+
+fn mixed_operator(o: &Operator) -> u8 {
+    let k = &o.keyboard_scaling;
+    let scaling = k.left_depth ^ k.right_depth ^ k.left_curve ^ k.right_curve ^ k.break_point;
+    let sensitivities = o.rate_scaling ^ o.amp_mod_sensitivity ^ o.velocity_sensitivity;
+    mixed_envelope(&o.envelope) ^ scaling ^ sensitivities ^ o.level ^ o.mode ^ o.coarse ^ o.fine ^ o.detune
+}
+
+/// Every field of a patch, as the proved side mixes them.
+fn mixed_patch(p: &Patch) -> u8 {
+    let m = &p.modulations;
+    let depths = m.delay ^ m.rate ^ m.pitch_mod_depth ^ m.amp_mod_depth;
+    let lfo = depths ^ m.reset_phase ^ m.waveform ^ m.pitch_mod_sensitivity;
+    let operators = p.op.iter().fold(0, |all, o| all ^ mixed_operator(o));
+    let name = p.name.iter().fold(0, |all, x| all ^ x);
+    operators ^ mixed_envelope(&p.pitch_envelope) ^ lfo ^ name ^ p.algorithm ^ p.feedback ^ p.reset_phase ^ p.transpose
+}
+
+/// Bytes that look random, the same in every run.
+fn bytes(count: usize) -> Vec<u8> {
+    let mut state = 1u32;
+    let next = |_| {
+        state = state.wrapping_mul(1664525).wrapping_add(1013904223);
+        (state >> 24) as u8
+    };
+    (0..count).map(next).collect()
+}
+
+fn patches() {
+    let data = bytes(128 * 64);
+    let each = || data.chunks(128);
+    let (mut ours, mut rust, mut both) = (0, 0, 0);
+    let unpack = |chunk: &[u8]| unsafe { bench_unpack(chunk.as_ptr(), chunk.len()) };
+    race(
+        "unpacking: ns a patch",
+        64.0,
+        || ours = each().fold(0u8, |all, chunk| all.rotate_left(1) ^ unpack(black_box(chunk))),
+        || {
+            rust = each().fold(0u8, |all, chunk| {
+                let mut patch = Patch::new();
+                patch.unpack(black_box(chunk));
+                all.rotate_left(1) ^ mixed_patch(&patch)
+            })
+        },
+    );
+    assert_eq!(ours, rust, "the two sides differ");
+    race(
+        "unpacking and packing again, beside our unpacking alone: ns a patch",
+        64.0,
+        || both = each().fold(0u8, |all, chunk| all ^ unsafe { bench_pack(black_box(chunk).as_ptr(), 128) }),
+        || ours = each().fold(0u8, |all, chunk| all.rotate_left(1) ^ unpack(black_box(chunk))),
+    );
+    black_box(both);
+}
+
+fn bank() {
+    let mut dump = vec![0xf0, 0x43, 0, 9, 0x20, 0];
+    dump.extend(bytes(4096).iter().map(|b| b % 128));
+    let sum: u32 = dump[6..].iter().map(|b| *b as u32).sum();
+    dump.extend([(128 - sum % 128) as u8 % 128, 0xf7]);
+    let mut number = 1;
+    race(
+        "validating a bank, beside a bare sum of its bytes: ns",
+        1.0,
+        || number = unsafe { bench_validate(black_box(&dump).as_ptr(), dump.len()) },
+        || {
+            black_box(black_box(&dump).iter().fold(0u8, |all, b| all.wrapping_add(*b)));
+        },
+    );
+    assert_eq!(number, 0, "the dump is refused");
+}
+
+fn rows() {
+    let mut algorithms = Algorithms::<6, 32>::new();
+    let mut all = 0;
+    race(
+        "compiling a row of six: ns",
+        32.0,
+        || {
+            for row in &OPCODES_6_32 {
+                let [a, b, c, d, e, f] = *black_box(row);
+                all ^= unsafe { bench_compile(a, b, c, d, e, f) };
+            }
+        },
+        || {
+            for row in 0..32 {
+                algorithms.compile(black_box(row));
+            }
+            black_box(&algorithms);
+        },
+    );
+    black_box(all);
+}
+
+fn main() {
+    println!("| work | ours | the Rust | ratio |\n|---|---|---|---|");
+    for samples in [24, 64, 256, 1024] {
+        sine_block(samples);
+    }
+    patches();
+    bank();
+    rows();
+}

@@ -1,0 +1,82 @@
+-- The test of a table, and a row within it.
+-- Assumes nothing.
+use mathlib.Core.Path.{_≡_, refl, _∙_}
+use mathlib.Core.Bool.{Bool, true, false, _&&_, false≢true}
+use Prim.Native.Nat.{ℕ, _+_, _*_, _/_, _%_, _≤_, _<_}
+use native.Mathlib.Nat.{mul-le-mul-right, div-mul-le-self, suc-mul, le-trans}
+use native.Mathlib.Omega.{arith}
+use mathlib.Core.List.{List, [], _∷_}
+use lib.Dec.{eqb, ltb, leb}
+use lib.ListN.{length}
+use borrow.Author.Tests.{ltb-true, lt-ltb, le-ltb, lt-leb, le-leb, eq-eqb, ne-eqb}
+use Rattle.algorithms.specs.Plan.{counted, refusal, planned}
+use Rattle.algorithms.specs.Table.{six, tabled, rowOf, withRow, compiled}
+use Rattle.algorithms.specs.declared.Compiled.{Compiled}
+use Rattle.algorithms.specs.declared.Planned.{Planned}
+
+pub and-left : (a b : Bool) → (a && b) ≡ true → a ≡ true
+and-left true b e = refl
+and-left false b e = e
+
+pub and-right : (a b : Bool) → (a && b) ≡ true → b ≡ true
+and-right true b e = e
+and-right false b e = absurd (false≢true e)
+
+pub row-fits : (operators : ℕ) (table : List ℕ) (row : ℕ) → tabled operators table row ≡ true → row * operators + operators ≤ length table
+unfolding tabled
+row-fits operators table row e =
+    let r = length table / operators in
+    let e₁ = and-right (counted operators) (ltb 0 (length table) && (eqb (length table % operators) 0 && (leb r 32 && ltb row r))) e in
+    let e₂ = and-right (ltb 0 (length table)) (eqb (length table % operators) 0 && (leb r 32 && ltb row r)) e₁ in
+    let e₃ = and-right (eqb (length table % operators) 0) (leb r 32 && ltb row r) e₂ in
+    let h = ltb-true row r (and-right (leb r 32) (ltb row r) e₃) in
+    rw (← suc-mul row operators) (le-trans (mul-le-mul-right operators h) (div-mul-le-self (length table) operators))
+
+-- ---- the tests of the code, in order
+
+pub wrong-operators : (operators : ℕ) (table : List ℕ) (row : ℕ) → counted operators ≡ false → false ≡ tabled operators table row
+unfolding tabled
+wrong-operators operators table row k = rw k
+
+module _ (operators : ℕ) (table : List ℕ) (row : ℕ) (k : counted operators ≡ true) where
+  pub empty-table : length table ≡ 0 → false ≡ tabled operators table row
+  unfolding tabled
+  empty-table e = rw (k, le-ltb 0 (length table) (omega arith))
+
+  module _ (e : length table ≡ 0 → ⊥) where
+    pub broken-table : (length table % operators ≡ 0 → ⊥) → false ≡ tabled operators table row
+    unfolding tabled
+    broken-table h = rw (k, lt-ltb 0 (length table) (omega arith), ne-eqb (length table % operators) 0 h)
+
+    module _ (h : length table % operators ≡ 0) where
+      pub long-table : 32 < length table / operators → false ≡ tabled operators table row
+      unfolding tabled
+      long-table l = rw (k, lt-ltb 0 (length table) (omega arith), eq-eqb (length table % operators) 0 h, lt-leb (length table / operators) 32 l)
+
+      pub row-test : length table / operators ≤ 32 → ltb row (length table / operators) ≡ tabled operators table row
+      unfolding tabled
+      row-test l = rw (k, lt-ltb 0 (length table) (omega arith), eq-eqb (length table % operators) 0 h, le-leb (length table / operators) 32 l)
+
+-- ---- the row beside its plan
+
+pub kept-row : (bytes : List ℕ) (p : Planned) → p .number ≡ 0 → record { number = p .number; at = p .at; row = bytes; plan = p .plan } ≡ withRow bytes p
+unfolding withRow
+kept-row bytes p e = rw (eq-eqb (p .number) 0 e)
+
+pub zero-row : (bytes : List ℕ) (p : Planned) → (p .number ≡ 0 → ⊥) → record { number = p .number; at = p .at; row = 0 ∷ 0 ∷ 0 ∷ 0 ∷ 0 ∷ 0 ∷ []; plan = p .plan } ≡ withRow bytes p
+unfolding withRow six
+zero-row bytes p h = rw (ne-eqb (p .number) 0 h)
+
+-- a refusal's row is zero, whatever the bytes
+pub refused-row : (bytes other : List ℕ) (number at : ℕ) → (number ≡ 0 → ⊥) → withRow bytes (refusal number at) ≡ withRow other (refusal number at)
+unfolding withRow
+refused-row bytes other number at h = rw (ne-eqb number 0 h)
+
+module _ (operators : ℕ) (table : List ℕ) (row : ℕ) (t : Bool) (et : t ≡ tabled operators table row) (bytes : List ℕ) (p : Planned) (r : Compiled) (er : r ≡ withRow bytes p) where
+  pub compiled-row : t ≡ true → bytes ≡ rowOf operators table row → p ≡ planned operators bytes → r ≡ compiled operators table row
+  unfolding compiled
+  compiled-row z eb ep = rw (← et, z, ← eb, ← ep) er
+
+  pub compiled-refused : t ≡ false → p ≡ refusal 2 0 → r ≡ compiled operators table row
+  unfolding compiled
+  compiled-refused z ep = rw (← et, z) (er ∙ rw ep (refused-row bytes (rowOf operators table row) 2 0 (omega arith)))

@@ -1,0 +1,5 @@
+-- the laws of the definitions
+pub mod Laws
+pub mod Segments
+pub mod Reached
+pub mod Scrubs

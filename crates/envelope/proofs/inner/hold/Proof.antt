@@ -1,0 +1,47 @@
+-- `envelope::inner::hold` meets its contract. Assumes nothing.
+use mathlib.Core.Path.{sym}
+use borrow.Author.Tests.{lt-ltb, le-ltb}
+use lib.Ieee.{round, ofBits}
+use Rattle.numbers.specs.F32.{minusDecimal}
+use Rattle.envelope.specs.Envelope.{previousLevel}
+use Rattle.envelope.specs.Scrub.{held}
+use borrow.Author.Needs.{needs}
+use Rattle.envelope.proofs.inner.hold.Statement.{statement}
+use Rattle.envelope.proofs.inner.hold.Tie as tie
+
+reach-requires : tie.Need-reach-requires
+reach-requires c κs = search needs
+
+mul-phase : tie.Need-mul-phase
+mul-phase c = search needs
+
+element-copy-out-phase : tie.Need-element-copy-out-phase
+element-copy-out-phase c = search needs
+
+value-requires : tie.Need-value-requires
+value-requires c κs = search needs
+
+returns : tie.Need-returns
+unfolding held previousLevel minusDecimal round ofBits
+returns c = let at-then = c .before .before .before in
+    simp (sym (at-then .before .reach .ensures), lt-ltb _ _ (at-then .if1 .taken)) (c .value .ensures)
+
+past-stages-requires : tie.Need-past-stages-requires
+past-stages-requires c κs = search needs
+
+returns-2 : tie.Need-returns-2
+unfolding held
+returns-2 c = let at-else = c .before .before in
+    simp (sym (at-else .before .reach .ensures), le-ltb _ _ (at-else .if1 .left)) (c .past-stages .ensures)
+
+pub hold-spec : {M : Type 1} → statement M
+hold-spec =
+    tie.close
+    (tie.spec
+    reach-requires
+    mul-phase
+    element-copy-out-phase
+    value-requires
+    returns
+    past-stages-requires
+    returns-2)

@@ -1,0 +1,29 @@
+-- `envelope::operator_set` meets its contract. Assumes nothing.
+use mathlib.Core.Path.{sym, _∙_}
+use borrow.Author.Tests.{not-true, not-false, lt-leb, le-leb}
+use Rattle.envelope.specs.Answers.{operatorSetAnswer}
+use borrow.Author.Needs.{needs}
+use Rattle.envelope.proofs.operator_set.Statement.{statement}
+use Rattle.envelope.proofs.operator_set.Tie as tie
+
+returns : tie.Need-returns
+unfolding operatorSetAnswer
+returns c = simp (lt-leb _ _ (c .if1 .taken))
+
+operator-fits-requires : tie.Need-operator-fits-requires
+operator-fits-requires c κs = search needs
+
+returns-2 : tie.Need-returns-2
+unfolding operatorSetAnswer
+returns-2 c = simp (le-leb _ _ (c .before .before .if1 .left), sym (c .before .operator-fits .ensures) ∙ not-true (c .before .operator-fits .result) (c .if2 .taken))
+
+operator-set-requires : tie.Need-operator-set-requires
+operator-set-requires c κs = search needs
+
+returns-3 : tie.Need-returns-3
+unfolding operatorSetAnswer
+returns-3 c = simp (le-leb _ _ (c .before .before .before .if1 .left), sym (c .before .before .operator-fits .ensures) ∙ not-false (c .before .before .operator-fits .result) (c .before .if2 .left), c .operator-set .ensures)
+
+pub operator-set-spec : {M : Type 1} → statement M
+operator-set-spec =
+    tie.close (tie.spec returns operator-fits-requires returns-2 operator-set-requires returns-3)

@@ -1,0 +1,111 @@
+-- An envelope of four stages, after envelope.rs: its start, its value and its render, with one rounding per written operation, in the Rust's order.
+-- `reshape` is true for an operator's envelope and false for pitch. A NaN compares false everywhere. Definitions only.
+use mathlib.Core.Bool.{Bool, _&&_, cond}
+use mathlib.Core.List.{List, [], _∷_}
+use Prim.Native.Nat.{ℕ, _+_, _%_, _^_}
+use lib.Dec.{eqb, ltb}
+use lib.ListN.{getD}
+use lib.Ieee.{Float, nan, lt, le, eq}
+use Rattle.numbers.specs.F32.{_⊕_, _⊖_, _⊗_, _⊘_, decimal, minusDecimal, asFloat}
+use Rattle.numbers.specs.Extremes.{maximum}
+use Rattle.envelope.specs.declared.Envelope.{Envelope}
+
+-- one number for each of the four stages
+abbrev pub perStage : (ℕ → Float) → List Float
+perStage f = f 0 ∷ f 1 ∷ f 2 ∷ f 3 ∷ []
+
+abbrev pub incrementAt : Envelope → ℕ → Float
+incrementAt e stage = getD (e .increment) stage nan
+
+abbrev pub levelAt : Envelope → ℕ → Float
+levelAt e stage = getD (e .level) stage nan
+
+-- the level before a stage's; the first's is the last
+abbrev pub levelBefore : List Float → ℕ → Float
+levelBefore levels stage = getD levels ((stage + 3) % 4) nan
+
+-- at rest at the end of the last stage; the levels are halves of each other, but that the last is 0
+unfoldable pub initialised : Float → Envelope
+initialised scale = record {
+  stage = 3;
+  phase = decimal 1 0;
+  start = decimal 0 0;
+  increment = perStage (λ i. decimal 1 3);
+  level = perStage (λ i. cond (ltb i 3) (decimal 1 0 ⊘ asFloat (2 ^ i)) (decimal 0 0));
+  scale = scale;
+}
+
+-- ---- the value
+
+-- this start stands for the level before; it is compared as a float
+unfoldable pub previousLevel : Float
+previousLevel = minusDecimal 100 0
+
+-- where a stage starts: at the level before it, or at a level of its own
+unfoldable pub startOf : Float → Float → Float
+startOf before start = cond (eq start previousLevel) before start
+
+-- an operator's rising segment jumps to this level
+unfoldable pub jump : Float
+jump = decimal 67 1
+
+-- an operator's rising segment is bent, vaguely as a logarithm
+unfoldable pub bent : Float → Float
+bent phase = phase ⊗ ((decimal 25 1 ⊖ phase) ⊗ decimal 666667 6)
+
+-- the straight line from a level to another
+unfoldable pub line : Float → Float → Float → Float
+line phase from to = phase ⊗ (to ⊖ from) ⊕ from
+
+-- from a level to another; an operator's rising segment lifts both ends to at least 6.7
+unfoldable pub segment : Bool → Float → Float → Float → Float
+segment reshape phase from to =
+    cond (reshape && lt from to) (line (bent phase) (maximum jump from) (maximum jump to)) (line phase from to)
+
+-- the value at a phase of a stage
+unfoldable pub valueAt : Bool → Envelope → ℕ → Float → Float → Float
+valueAt reshape e stage phase start = segment reshape phase (startOf (levelBefore (e .level) stage) start) (levelAt e stage)
+
+-- the value now
+unfoldable pub currentValue : Bool → Envelope → Float
+currentValue reshape e = valueAt reshape e (e .stage) (e .phase) (e .start)
+
+-- ---- the render
+
+-- the same envelope at a phase of a stage
+abbrev pub movedTo : Envelope → ℕ → Float → Float → Envelope
+movedTo e stage phase start = record {
+  stage = stage;
+  phase = phase;
+  start = start;
+  increment = e .increment;
+  level = e .level;
+  scale = e .scale;
+}
+
+-- it leaves the value now for the start of a stage
+abbrev pub jumpedTo : Bool → Envelope → ℕ → Envelope
+jumpedTo reshape e stage = movedTo e stage (decimal 0 0) (currentValue reshape e)
+
+-- a gate that opens starts the first stage, and one that closes the last
+unfoldable pub gated : Bool → Bool → Envelope → Envelope
+gated reshape gate e =
+    cond gate (cond (eqb (e .stage) 3) (jumpedTo reshape e 0) e) (cond (eqb (e .stage) 3) e (jumpedTo reshape e 3))
+
+-- the phase a call further; the last stage has a scale of its own
+unfoldable pub steppedPhase : Float → Float → Float → Envelope → Float
+steppedPhase rate adScale releaseScale e =
+    e .phase ⊕ incrementAt e (e .stage) ⊗ rate ⊗ cond (eqb (e .stage) 3) releaseScale adScale
+
+-- a phase that reaches 1 ends its stage: the first two make room for the next, the phase left over is dropped, and the others are held at 1
+unfoldable pub advanced : Float → Envelope → Envelope
+advanced phase e =
+    cond (le (decimal 1 0) phase)
+    (cond (ltb (e .stage) 2) (movedTo e (e .stage + 1) (decimal 0 0) previousLevel) (movedTo e (e .stage) (decimal 1 0) previousLevel))
+    (movedTo e (e .stage) phase (e .start))
+
+-- one call: the gate, then the step, then at most one stage further
+unfoldable pub rendered : Bool → Bool → Float → Float → Float → Envelope → Envelope
+rendered reshape gate rate adScale releaseScale e =
+    let g = gated reshape gate e in
+    advanced (steppedPhase rate adScale releaseScale g) g

@@ -1,0 +1,338 @@
+// The functions of envelope.rs themselves, for callers that have checked their state.
+// Each promises its definition; where a stage picks a level or an increment, it is asked to be at most 3.
+ghost use mathlib.Core.Path.{_≡_};
+ghost use Prim.Native.Nat.{_≤_};
+ghost use Rattle.envelope.specs.Envelope.{startOf, segment, line, valueAt, currentValue};
+ghost use Rattle.envelope.specs.Envelope.{gated, movedTo, steppedPhase, advanced, rendered};
+ghost use Rattle.envelope.specs.Scrub.{reached, pastStages, held, scrubbed};
+ghost use Rattle.envelope.specs.Set.{setTo, operatorStageLevel, risingIncrement, operatorStageIncrement};
+ghost use Rattle.envelope.specs.Set.{operatorLevels, operatorIncrements, operatorSet};
+ghost use Rattle.envelope.specs.Set.{pitchStageIncrement, pitchLevels, pitchIncrements, pitchSet};
+use super::Envelope;
+
+// The start that stands for the level before.
+const PREVIOUS_LEVEL: f32 = -100.0;
+
+// Increments and levels are copied, and nothing else changes.
+fn set(envelope: Envelope, increment: [f32; 4], level: [f32; 4]) -> Envelope
+    ensures { λ r. ⌜ r ≡ setTo envelope increment level ⌝ }
+{
+    Envelope {
+        stage: envelope.stage,
+        phase: envelope.phase,
+        start: envelope.start,
+        increment: increment,
+        level: level,
+        scale: envelope.scale,
+    }
+}
+
+// Where a scrub's time ends: a stage, and the time left in it.
+pub struct Reached {
+    pub stage: usize,
+    pub t: f32,
+}
+
+pub fn render_at_sample(envelope: Envelope, reshape: bool, t: f32, gate_duration: f32) -> f32
+    ensures { λ r. ⌜ r ≡ scrubbed 1 reshape envelope t «gate_duration» ⌝ }
+{
+    scrub(envelope, reshape, t, gate_duration, 1)
+}
+
+// The scrub, with so many calls of itself allowed: past the gate's end it asks itself for the level there.
+fn scrub(envelope: Envelope, reshape: bool, t: f32, gate_duration: f32, calls: u32) -> f32
+    ensures { λ r. ⌜ r ≡ scrubbed calls reshape envelope t «gate_duration» ⌝ }
+{
+    if calls == 0 {
+        return hold(envelope, reshape, t, gate_duration);
+    }
+    if t > gate_duration {
+        let done = (t - gate_duration) * envelope.increment[3];
+        if done >= 1.0 {
+            return envelope.level[3];
+        }
+        let end = scrub(envelope, reshape, gate_duration, gate_duration, calls - 1);
+        return value(envelope, reshape, 3, done, end);
+    }
+    hold(envelope, reshape, t, gate_duration)
+}
+
+// At a time of an open gate.
+fn hold(envelope: Envelope, reshape: bool, t: f32, gate_duration: f32) -> f32
+    ensures { λ r. ⌜ r ≡ held reshape envelope t «gate_duration» ⌝ }
+{
+    let reached = reach(envelope, t);
+    let stage = reached.stage;
+    if stage < 3 {
+        let phase = reached.t * envelope.increment[stage];
+        return value(envelope, reshape, stage, phase, PREVIOUS_LEVEL);
+    }
+    past_stages(envelope, reshape, reached.t - gate_duration)
+}
+
+// The stage in which a time lies, and the time left there.
+fn reach(envelope: Envelope, t: f32) -> Reached
+    ensures { λ r. ⌜ r ≡ reached 3 0 (envelope .increment) t ⌝ }
+{
+    let mut left = t;
+    let mut stage = 0;
+    while stage < 3 {
+        let duration = 1.0 / envelope.increment[stage];
+        if left < duration {
+            break;
+        }
+        left -= duration;
+        stage += 1;
+    }
+    Reached {
+        stage: stage,
+        t: left,
+    }
+}
+
+// Past all stages.
+fn past_stages(envelope: Envelope, reshape: bool, t: f32) -> f32
+    ensures { λ r. ⌜ r ≡ pastStages reshape envelope t ⌝ }
+{
+    if t <= 0.0 {
+        return envelope.level[2];
+    }
+    let phase = t * envelope.increment[3];
+    if phase > 1.0 {
+        return envelope.level[3];
+    }
+    value(envelope, reshape, 3, phase, PREVIOUS_LEVEL)
+}
+
+pub fn render(
+    envelope: Envelope,
+    reshape: bool,
+    gate: bool,
+    rate: f32,
+    ad_scale: f32,
+    release_scale: f32,
+) -> Envelope
+    requires { ⌜ envelope .stage ≤ 3 ⌝ }
+    ensures { λ r. ⌜ r ≡ rendered reshape gate rate «ad_scale» «release_scale» envelope ⌝ }
+{
+    let followed = follow(envelope, reshape, gate);
+    let phase = step(followed, rate, ad_scale, release_scale);
+    advance(followed, phase)
+}
+
+// A gate that opens starts the first stage, and one that closes the last, from the value now.
+fn follow(envelope: Envelope, reshape: bool, gate: bool) -> Envelope
+    requires { ⌜ envelope .stage ≤ 3 ⌝ }
+    ensures { λ r. ⌜ r ≡ gated reshape gate envelope ⌝ }
+{
+    if gate {
+        if envelope.stage == 3 {
+            return move_to(envelope, 0, 0.0, current_value(envelope, reshape));
+        }
+        return envelope;
+    }
+    if envelope.stage == 3 {
+        return envelope;
+    }
+    move_to(envelope, 3, 0.0, current_value(envelope, reshape))
+}
+
+fn move_to(envelope: Envelope, stage: usize, phase: f32, start: f32) -> Envelope
+    ensures { λ r. ⌜ r ≡ movedTo envelope stage phase start ⌝ }
+{
+    let mut moved = envelope;
+    moved.stage = stage;
+    moved.phase = phase;
+    moved.start = start;
+    moved
+}
+
+// The phase a call further.
+fn step(envelope: Envelope, rate: f32, ad_scale: f32, release_scale: f32) -> f32
+    requires { ⌜ envelope .stage ≤ 3 ⌝ }
+    ensures { λ r. ⌜ r ≡ steppedPhase rate «ad_scale» «release_scale» envelope ⌝ }
+{
+    let stage = envelope.stage;
+    let increment = envelope.increment[stage] * rate;
+    if stage == 3 {
+        return envelope.phase + increment * release_scale;
+    }
+    envelope.phase + increment * ad_scale
+}
+
+// At most one stage further, and nothing is kept of the phase past the stage's end.
+fn advance(envelope: Envelope, phase: f32) -> Envelope
+    ensures { λ r. ⌜ r ≡ advanced phase envelope ⌝ }
+{
+    let stage = envelope.stage;
+    if phase >= 1.0 {
+        if stage < 2 {
+            return move_to(envelope, stage + 1, 0.0, PREVIOUS_LEVEL);
+        }
+        return move_to(envelope, stage, 1.0, PREVIOUS_LEVEL);
+    }
+    move_to(envelope, stage, phase, envelope.start)
+}
+
+pub fn current_value(envelope: Envelope, reshape: bool) -> f32
+    requires { ⌜ envelope .stage ≤ 3 ⌝ }
+    ensures { λ r. ⌜ r ≡ currentValue reshape envelope ⌝ }
+{
+    value(
+        envelope,
+        reshape,
+        envelope.stage,
+        envelope.phase,
+        envelope.start,
+    )
+}
+
+pub fn value(envelope: Envelope, reshape: bool, stage: usize, phase: f32, start_level: f32) -> f32
+    requires { ⌜ stage ≤ 3 ⌝ }
+    ensures { λ r. ⌜ r ≡ valueAt reshape envelope stage phase «start_level» ⌝ }
+{
+    let from = start_of(envelope.level[(stage + 3) % 4], start_level);
+    segment(reshape, phase, from, envelope.level[stage])
+}
+
+// Where a stage starts: at the level before it, or at a level of its own.
+fn start_of(before: f32, start_level: f32) -> f32
+    ensures { λ r. ⌜ r ≡ startOf before «start_level» ⌝ }
+{
+    if start_level == PREVIOUS_LEVEL {
+        return before;
+    }
+    start_level
+}
+
+// A rising segment of an operator jumps to 6.7 and is bent.
+fn segment(reshape: bool, phase: f32, from: f32, to: f32) -> f32
+    ensures { λ r. ⌜ r ≡ segment reshape phase from to ⌝ }
+{
+    if !reshape {
+        return line(phase, from, to);
+    }
+    if from < to {
+        let bent = phase * ((2.5 - phase) * 0.666667);
+        return line(bent, numbers::f32_max(6.7, from), numbers::f32_max(6.7, to));
+    }
+    line(phase, from, to)
+}
+
+fn line(phase: f32, from: f32, to: f32) -> f32
+    ensures { λ r. ⌜ r ≡ line phase from to ⌝ }
+{
+    phase * (to - from) + from
+}
+
+pub fn operator_set(envelope: Envelope, rate: [u8; 4], level: [u8; 4], global_level: u8) -> Envelope
+    ensures { λ r. ⌜ r ≡ operatorSet envelope rate level «global_level» ⌝ }
+{
+    let levels = operator_levels(level, global_level);
+    let increments = operator_increments(rate, levels, level[0] == 0, envelope.scale);
+    set(envelope, increments, levels)
+}
+
+fn operator_levels(level: [u8; 4], global_level: u8) -> [f32; 4]
+    ensures { λ r. ⌜ r ≡ operatorLevels level «global_level» ⌝ }
+{
+    [
+        operator_stage_level(level[0], global_level),
+        operator_stage_level(level[1], global_level),
+        operator_stage_level(level[2], global_level),
+        operator_stage_level(level[3], global_level),
+    ]
+}
+
+fn operator_stage_level(level: u8, global_level: u8) -> f32
+    ensures { λ r. ⌜ r ≡ operatorStageLevel level «global_level» ⌝ }
+{
+    let scaled = dx_units::inner::operator_level(level) as u32 / 2 * 2 + global_level as u32;
+    if scaled < 134 {
+        return 0.125 * 0.5;
+    }
+    0.125 * numbers::u32_as_f32(scaled - 133)
+}
+
+fn operator_increments(rate: [u8; 4], level: [f32; 4], fast: bool, scale: f32) -> [f32; 4]
+    ensures { λ r. ⌜ r ≡ operatorIncrements rate level fast scale ⌝ }
+{
+    [
+        operator_stage_increment(rate[0], level[3], level[0], fast) * scale,
+        operator_stage_increment(rate[1], level[0], level[1], false) * scale,
+        operator_stage_increment(rate[2], level[1], level[2], false) * scale,
+        operator_stage_increment(rate[3], level[2], level[3], false) * scale,
+    ]
+}
+
+// The increment of a plateau is scaled, and the attack's plateau is faster.
+fn operator_stage_increment(rate: u8, from: f32, to: f32, fast: bool) -> f32
+    ensures { λ r. ⌜ r ≡ operatorStageIncrement rate from to fast ⌝ }
+{
+    let increment = dx_units::inner::operator_envelope_increment(rate);
+    if from == to {
+        if fast {
+            return increment * 0.6 * 20.0;
+        }
+        return increment * 0.6;
+    }
+    if from < to {
+        return rising_increment(increment, from, to);
+    }
+    increment * (1.0 / (from - to))
+}
+
+// Because of the jump a rising stage might disappear, and because of its shape its rate is adjusted.
+fn rising_increment(increment: f32, from: f32, to: f32) -> f32
+    ensures { λ r. ⌜ r ≡ risingIncrement increment from to ⌝ }
+{
+    let low = numbers::f32_max(6.7, from);
+    let high = numbers::f32_max(6.7, to);
+    if low == high {
+        return 1.0;
+    }
+    increment * (7.2 / (high - low))
+}
+
+pub fn pitch_set(envelope: Envelope, rate: [u8; 4], level: [u8; 4]) -> Envelope
+    ensures { λ r. ⌜ r ≡ pitchSet envelope rate level ⌝ }
+{
+    let levels = pitch_levels(level);
+    let increments = pitch_increments(rate, levels, envelope.scale);
+    set(envelope, increments, levels)
+}
+
+fn pitch_levels(level: [u8; 4]) -> [f32; 4]
+    ensures { λ r. ⌜ r ≡ pitchLevels level ⌝ }
+{
+    [
+        dx_units::inner::pitch_envelope_level(level[0]),
+        dx_units::inner::pitch_envelope_level(level[1]),
+        dx_units::inner::pitch_envelope_level(level[2]),
+        dx_units::inner::pitch_envelope_level(level[3]),
+    ]
+}
+
+fn pitch_increments(rate: [u8; 4], level: [f32; 4], scale: f32) -> [f32; 4]
+    ensures { λ r. ⌜ r ≡ pitchIncrements rate level scale ⌝ }
+{
+    [
+        pitch_stage_increment(rate[0], level[3], level[0], false) * scale,
+        pitch_stage_increment(rate[1], level[0], level[1], false) * scale,
+        pitch_stage_increment(rate[2], level[1], level[2], false) * scale,
+        pitch_stage_increment(rate[3], level[2], level[3], true) * scale,
+    ]
+}
+
+fn pitch_stage_increment(rate: u8, from: f32, to: f32, last: bool) -> f32
+    ensures { λ r. ⌜ r ≡ pitchStageIncrement rate from to last ⌝ }
+{
+    let increment = dx_units::inner::pitch_envelope_increment(rate);
+    if from != to {
+        return increment * (1.0 / numbers::f32_abs(from - to));
+    }
+    if last {
+        return increment;
+    }
+    0.2
+}

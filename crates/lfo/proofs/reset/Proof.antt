@@ -1,0 +1,23 @@
+-- `lfo::reset` meets its contract. Assumes nothing.
+use Rattle.lfo.specs.Answers.{resetAnswer}
+use mathlib.Core.Path.{_∙_, sym}
+use borrow.Author.Needs.{needs}
+use Rattle.lfo.proofs.reset.Statement.{statement}
+use Rattle.lfo.proofs.reset.Tie as tie
+
+state-fits-requires : tie.Need-state-fits-requires
+state-fits-requires c κs = search needs
+
+restart-requires : tie.Need-restart-requires
+restart-requires c κs = search needs
+
+returns : tie.Need-returns
+unfolding resetAnswer
+returns c = simp (c .restart .ensures, sym (c .before .before .state-fits .ensures) ∙ c .before .if1 .taken)
+
+returns-2 : tie.Need-returns-2
+unfolding resetAnswer
+returns-2 c = simp (sym (c .before .state-fits .ensures) ∙ c .if1 .left)
+
+pub reset-spec : {M : Type 1} → statement M
+reset-spec = tie.close (tie.spec state-fits-requires restart-requires returns returns-2)

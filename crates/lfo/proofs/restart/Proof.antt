@@ -1,0 +1,17 @@
+-- `lfo::restart` meets its contract. Assumes nothing.
+use Rattle.lfo.specs.Lfo.{movedTo, restarted}
+use Rattle.numbers.specs.F32.{decimal}
+use lib.Ieee.{ofBits}
+use Rattle.lfo.proofs.restart.Statement.{statement}
+use Rattle.lfo.proofs.restart.Tie as tie
+
+returns : tie.Need-returns
+unfolding restarted movedTo decimal ofBits
+returns c = simp (c .if1 .taken)
+
+returns-2 : tie.Need-returns-2
+unfolding restarted movedTo decimal ofBits
+returns-2 c = simp (c .if1 .left)
+
+pub restart-spec : {M : Type 1} → statement M
+restart-spec = tie.close (tie.spec returns returns-2)

@@ -1,0 +1,78 @@
+-- `lfo::wave_with` meets its contract. Assumes nothing.
+use Rattle.lfo.specs.Lfo.{waveOf}
+use Rattle.numbers.specs.F32.{decimal}
+use lib.Ieee.{ofBits}
+use borrow.Author.Needs.{needs}
+use Rattle.lfo.proofs.wave_with.Statement.{statement}
+use Rattle.lfo.proofs.wave_with.Tie as tie
+
+enum-told : tie.Need-enum-told
+enum-told c = search needs
+
+triangle-requires : tie.Need-triangle-requires
+triangle-requires c κs = search needs
+
+enum-told-2 : tie.Need-enum-told-2
+enum-told-2 c = search needs
+
+enum-told-3 : tie.Need-enum-told-3
+enum-told-3 c = search needs
+
+enum-told-4 : tie.Need-enum-told-4
+enum-told-4 c = search needs
+
+square-requires : tie.Need-square-requires
+square-requires c κs = search needs
+
+enum-told-5 : tie.Need-enum-told-5
+enum-told-5 c = search needs
+
+sine-wave-requires : tie.Need-sine-wave-requires
+sine-wave-requires c κs = search needs
+
+enum-told-6 : tie.Need-enum-told-6
+enum-told-6 c = search needs
+
+returns : tie.Need-returns
+unfolding waveOf
+returns c = simp (c .triangle .ensures, c .before .enum-told .given .1)
+
+returns-2 : tie.Need-returns-2
+unfolding waveOf decimal ofBits
+returns-2 c = simp (c .enum-told2 .given .1)
+
+returns-3 : tie.Need-returns-3
+unfolding waveOf
+returns-3 c = simp (c .enum-told3 .given .1)
+
+returns-4 : tie.Need-returns-4
+unfolding waveOf
+returns-4 c = simp (c .square .ensures, c .before .enum-told4 .given .1)
+
+returns-5 : tie.Need-returns-5
+unfolding waveOf
+returns-5 c = simp (c .sine-wave .ensures, c .before .enum-told5 .given .1)
+
+returns-6 : tie.Need-returns-6
+unfolding waveOf
+returns-6 c = simp (c .enum-told6 .given .1)
+
+pub wave-with-spec : {M : Type 1} → statement M
+wave-with-spec =
+    tie.close
+    (tie.spec
+    enum-told
+    triangle-requires
+    enum-told-2
+    enum-told-3
+    enum-told-4
+    square-requires
+    enum-told-5
+    sine-wave-requires
+    enum-told-6
+    returns
+    returns-2
+    returns-3
+    returns-4
+    returns-5
+    returns-6)

@@ -1,0 +1,81 @@
+-- What each entry of the LFO answers: document 01's refusals in its order, then the LFO's own work. Definitions only.
+use mathlib.Core.Bool.{Bool, _&&_, cond}
+use mathlib.Core.List.{List}
+use Prim.Native.Nat.{ℕ}
+use lib.Ieee.{Float, lt, le}
+use lib.Ieee.Scale.{finite}
+use Rattle.numbers.specs.F32.{_⊗_, _⊘_, decimal}
+use Rattle.patch.specs.declared.ModulationParameters.{ModulationParameters}
+use Rattle.patch.specs.Packed.{modulationsFit}
+use Rattle.lfo.specs.declared.Lfo.{Lfo}
+use Rattle.lfo.specs.declared.Prepared.{Prepared}
+use Rattle.lfo.specs.declared.Moved.{Moved}
+use Rattle.lfo.specs.declared.Read.{Read}
+use Rattle.lfo.specs.Lfo.{freshLfo, adjusted, restarted, stepped, scrubbed, settled, waveAt, rampOf, pitchModOf, ampModOf}
+
+-- ---- what is accepted
+
+-- a sample rate from 8,000 to 192,000; a NaN is in no range (else 5)
+unfoldable pub sampleRateFits : Float → Bool
+sampleRateFits rate = le (decimal 8000 0) rate && le rate (decimal 192000 0)
+
+-- finite and at least 0, as -0 is
+unfoldable pub fromZero : Float → Bool
+fromZero x = le (decimal 0 0) x && finite x
+
+-- a state with 0 ≤ phase < 1 and a frequency that is finite and not negative (else 9)
+unfoldable pub stateFits : Lfo → Bool
+stateFits lfo = le (decimal 0 0) (lfo .phase) && lt (lfo .phase) (decimal 1 0) && fromZero (lfo .frequency)
+
+-- a scale or a sample that is finite and at least 0, its product with the frequency below 1 for a step (else 7)
+unfoldable pub stepFits : Lfo → Float → Bool
+stepFits lfo scale = fromZero scale && lt (scale ⊗ lfo .frequency) (decimal 1 0)
+
+-- and below 2 ^ 31 for a scrub (else 7)
+unfoldable pub scrubFits : Lfo → Float → Bool
+scrubFits lfo sample = fromZero sample && lt (sample ⊗ lfo .frequency) (decimal 2147483648 0)
+
+-- ---- the answers
+
+abbrev pub prepared : ℕ → Lfo → Prepared
+prepared number lfo = record { number = number; lfo = lfo }
+
+-- a refusal hands back the state and the generator's number as they came
+abbrev pub notMoved : ℕ → Lfo → ℕ → Moved
+notMoved number lfo state = record { number = number; lfo = lfo; state = state }
+
+-- refused, an LFO of zeros stands there
+unfoldable pub initAnswer : Float → Prepared
+initAnswer rate = cond (sampleRateFits rate) (prepared 0 (freshLfo (decimal 1 0 ⊘ rate) (decimal 1 1))) (prepared 5 (freshLfo (decimal 0 0) (decimal 0 0)))
+
+-- a pitch sensitivity is at most 7 here
+unfoldable pub setAnswer : Lfo → ModulationParameters → Prepared
+setAnswer lfo m = cond (stateFits lfo) (cond (modulationsFit m 7) (prepared 0 (adjusted lfo m)) (prepared 6 lfo)) (prepared 9 lfo)
+
+unfoldable pub resetAnswer : Lfo → Prepared
+resetAnswer lfo = cond (stateFits lfo) (prepared 0 (restarted lfo)) (prepared 9 lfo)
+
+unfoldable pub stepAnswer : List Float → Lfo → ℕ → Float → Moved
+stepAnswer lut lfo state scale =
+    cond (stateFits lfo) (cond (stepFits lfo scale) (settled lut (stepped lfo state scale)) (notMoved 7 lfo state)) (notMoved 9 lfo state)
+
+unfoldable pub scrubAnswer : List Float → Lfo → ℕ → Float → Moved
+scrubAnswer lut lfo state sample =
+    cond (stateFits lfo) (cond (scrubFits lfo sample) (settled lut (scrubbed lfo state sample)) (notMoved 7 lfo state)) (notMoved 9 lfo state)
+
+-- a value read from an LFO; refused, 0
+unfoldable pub readAnswer : Lfo → Float → Read
+readAnswer lfo value = cond (stateFits lfo) (record { number = 0; value = value }) (record { number = 9; value = decimal 0 0 })
+
+-- the wave where the LFO stands, which need not be the stored value
+unfoldable pub valueAnswer : List Float → Lfo → Read
+valueAnswer lut lfo = readAnswer lfo (waveAt lut lfo)
+
+unfoldable pub delayRampAnswer : Lfo → Read
+delayRampAnswer lfo = readAnswer lfo (rampOf (lfo .«delay_phase»))
+
+unfoldable pub pitchModAnswer : Lfo → Read
+pitchModAnswer lfo = readAnswer lfo (pitchModOf lfo)
+
+unfoldable pub ampModAnswer : Lfo → Read
+ampModAnswer lfo = readAnswer lfo (ampModOf lfo)

@@ -1,0 +1,3 @@
+pub mod Lfo
+pub mod Answers
+pub mod Played

@@ -1,0 +1,2 @@
+-- the tables that the contracts cite
+pub mod Opcodes

@@ -1,0 +1,38 @@
+-- `plan_text::put_row` meets its contract. Assumes nothing.
+use native.Mathlib.Omega.{arith}
+use denote.Ref.{now}
+use Rattle.plan_text.specs.Text.{rowText}
+use Rattle.plan_text.proofs.Pieces.{then, bytes-size}
+use borrow.Author.Needs.{needs}
+use Rattle.plan_text.proofs.put_row.Statement.{statement}
+use Rattle.plan_text.proofs.put_row.Tie as tie
+
+slice-aggregate-put : tie.Need-slice-aggregate-put
+slice-aggregate-put c = search needs
+
+put-requires : tie.Need-put-requires
+put-requires c κs = search needs
+
+put-bytes-requires : tie.Need-put-bytes-requires
+put-bytes-requires c κs = search needs
+
+slice-aggregate-put-2 : tie.Need-slice-aggregate-put-2
+slice-aggregate-put-2 c = search needs
+
+put-requires-2 : tie.Need-put-requires-2
+put-requires-2 c κs = omega (arith, c .before .before .before .before .put .ensures .next-place, c .before .before .put-bytes .ensures .next-place, bytes-size (now (c .before .before .before .before .before .before .before .before .args .bytes)), c .before .before .before .before .before .before .before .before .pre)
+
+returns : tie.Need-returns
+unfolding rowText
+returns c = then _ _ _ _ _ _ _ _ (c .before .before .before .before .before .put .ensures) (then _ _ _ _ _ _ _ _ (c .before .before .before .put-bytes .ensures) (c .put2 .ensures))
+
+pub put-row-spec : {M : Type 1} → statement M
+put-row-spec =
+    tie.close
+    (tie.spec
+    slice-aggregate-put
+    put-requires
+    put-bytes-requires
+    slice-aggregate-put-2
+    put-requires-2
+    returns)
