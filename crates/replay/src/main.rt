@@ -6,27 +6,44 @@ ghost use Prim.Native.Nat.{_≤_, min};
 ghost use lib.ListN.{length};
 
 mod calls;
+mod conversions;
+mod envelopes;
 mod leaves;
+mod lfos;
+mod patches;
+mod registers;
+mod rows;
+mod states;
 mod wire;
+
+use registers::Registers;
 
 // Every answer fits in this many bytes.
 const ROOM: usize = 24576;
 
 // How far a run has come: the bytes of the script at the buffer's start that wait for more, the
-// calls answered, and whether it goes on.
+// calls answered, whether it goes on, and the registers.
 struct Run {
     held: usize,
     calls: u64,
     going: bool,
+    registers: Registers,
 }
 
 // What was answered of a buffer: the bytes taken, the bytes of the answers, the calls answered up
-// to now, and whether the next call names no entry.
+// to now, and whether the next call names no entry or an entry with a state.
 struct Progress {
     at: usize,
     put: usize,
     calls: u64,
     unknown: bool,
+    state: bool,
+}
+
+// The same with the registers.
+struct Done {
+    progress: Progress,
+    registers: Registers,
 }
 
 fn least(a: usize, b: usize) -> usize
@@ -35,7 +52,7 @@ fn least(a: usize, b: usize) -> usize
     if a < b { a } else { b }
 }
 
-// Answers the whole calls of the script while the answers have room.
+// Answers the whole calls of entries without a state while the answers have room.
 fn answer_some(script: &[u8], answers: &mut [u8], before: u64) -> Progress
     ensures { λ r. ⌜ (r .at ≤ length (now (script .entry))) × (r .put ≤ length (now (answers .entry))) ⌝ }
 {
@@ -51,6 +68,7 @@ fn answer_some(script: &[u8], answers: &mut [u8], before: u64) -> Progress
                 put,
                 calls,
                 unknown: one.unknown,
+                state: one.state,
             };
         }
         let wrote = one.wrote;
@@ -63,7 +81,71 @@ fn answer_some(script: &[u8], answers: &mut [u8], before: u64) -> Progress
         put,
         calls,
         unknown: false,
+        state: false,
     }
+}
+
+// Answers the call of an entry with a state behind what was answered.
+fn answer_state(script: &[u8], answers: &mut [u8], done: Done) -> Done {
+    let progress = done.progress;
+    let at = least(progress.at, script.len());
+    let put = least(progress.put, answers.len());
+    let registers = done.registers;
+    let one = states::answer(registers, &script[at..], &mut answers[put..]);
+    let next = one.registers;
+    Done {
+        progress: Progress {
+            at: at + least(one.read, script.len() - at),
+            put: put + least(one.wrote, answers.len() - put),
+            calls: std::num::wrapping_add_u64(progress.calls, 1),
+            unknown: false,
+            state: true,
+        },
+        registers: next,
+    }
+}
+
+// Answers the calls behind what was answered, up to the next one with a state.
+fn answer_plain(script: &[u8], answers: &mut [u8], done: Done) -> Done {
+    let progress = done.progress;
+    let at = least(progress.at, script.len());
+    let put = least(progress.put, answers.len());
+    let registers = done.registers;
+    let some = answer_some(&script[at..], &mut answers[put..], progress.calls);
+    Done {
+        progress: Progress {
+            at: at + least(some.at, script.len() - at),
+            put: put + least(some.put, answers.len() - put),
+            calls: some.calls,
+            unknown: some.unknown,
+            state: some.state,
+        },
+        registers,
+    }
+}
+
+// Answers the whole calls of the script while the answers have room. Each turn takes a call with a
+// state at least, so there are no more turns than bytes.
+fn answer_all(script: &[u8], answers: &mut [u8], before: u64, registers: Registers) -> Done {
+    let start = Progress {
+        at: 0,
+        put: 0,
+        calls: before,
+        unknown: false,
+        state: true,
+    };
+    let mut done = Done {
+        progress: start,
+        registers,
+    };
+    done = answer_plain(script, answers, done);
+    let mut turns = script.len();
+    while turns > 0 && done.progress.state {
+        done = answer_state(script, answers, done);
+        done = answer_plain(script, answers, done);
+        turns -= 1;
+    }
+    done
 }
 
 // Moves the bytes from `at` up to `end` to the buffer's start.
@@ -130,16 +212,20 @@ fn is_over(script: &[u8], done: Progress, more: bool, end: usize) -> bool {
 fn turn(script: &mut [u8], answers: &mut [u8], run: Run) -> Run {
     let held = least(run.held, script.len());
     let end = read_behind(script, held);
-    let done = answer_some(&script[..end], answers, run.calls);
-    let at = done.at;
-    let put = done.put;
+    let registers = run.registers;
+    let done = answer_all(&script[..end], answers, run.calls, registers);
+    let progress = done.progress;
+    let next = done.registers;
+    let at = least(progress.at, end);
+    let put = least(progress.put, answers.len());
     let sent = io::write_all(1, &answers[..put]);
-    let over = is_over(script, done, held < end, end);
+    let over = is_over(script, progress, held < end, end);
     keep(script, at, end);
     Run {
         held: end - at,
-        calls: done.calls,
+        calls: progress.calls,
         going: sent && !over,
+        registers: next,
     }
 }
 
@@ -150,6 +236,7 @@ fn replay(script: &mut [u8], answers: &mut [u8]) {
         held: 0,
         calls: 0,
         going: true,
+        registers: Registers::new(),
     };
     let mut turns = u64::MAX;
     while turns > 0 && run.going {

@@ -2,9 +2,9 @@
 //! A group is a file with a list of rows; a new one is named in `GROUPS` and in main.rs.
 
 use crate::draw::Draw;
-use crate::numbers;
 use crate::script::{Answer, Arguments, Kind};
 use crate::states::Registers;
+use crate::{algorithms, envelope, lfo, numbers, patch, units};
 use std::io::{self, Write};
 
 pub struct Entry {
@@ -65,7 +65,14 @@ pub struct Group {
     pub entries: &'static [Entry],
 }
 
-pub const GROUPS: &[Group] = &[Group { name: "numbers", entries: numbers::ENTRIES }];
+pub const GROUPS: &[Group] = &[
+    Group { name: "numbers", entries: numbers::ENTRIES },
+    Group { name: "patches", entries: patch::ENTRIES },
+    Group { name: "conversions", entries: units::ENTRIES },
+    Group { name: "rows", entries: algorithms::ENTRIES },
+    Group { name: "envelopes", entries: envelope::ENTRIES },
+    Group { name: "lfo", entries: lfo::ENTRIES },
+];
 
 pub fn all() -> impl Iterator<Item = &'static Entry> {
     GROUPS.iter().flat_map(|group| group.entries)

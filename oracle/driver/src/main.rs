@@ -1,19 +1,24 @@
 //! The judge: runs the original Rust by a script of calls, makes such scripts, and compares two programs by them.
 //! docs/ORACLE.md describes the script, the entries and the commands.
 
+mod algorithms;
 mod answer;
 mod compare;
 mod draw;
 mod ends;
 mod entries;
+mod envelope;
 mod forms;
+mod lfo;
 mod numbers;
+mod patch;
 mod report;
 mod script;
 mod shrink;
 mod side;
 mod smoke;
 mod states;
+mod units;
 
 use entries::Entry;
 use std::io::{self, Write};

@@ -21,10 +21,11 @@ use std::hint::black_box;
 type Check = (&'static str, fn() -> bool);
 
 pub fn smoke() -> bool {
-    let checks: [Check; 8] = [
+    let checks: [Check; 9] = [
         ("entries take what is drawn for them", entries_fit),
         ("states read as they are written", forms_fit),
         ("conversions", conversions),
+        ("the ratio from semitones", ratios),
         ("tables", tables),
         ("the generator's number", generator),
         ("rows put in", rows),
@@ -74,6 +75,15 @@ fn conversions() -> bool {
     let steps = [0.5, 0.75, -0.25, f32::NAN].map(|x| step(black_box(x))) == [1 << 31, 1 << 31, 0, 1 << 31];
     let ratio = (semitones_to_ratio_safe(black_box(240.0)) / 1_048_576.0 - 1.0).abs() < 1e-3;
     levels && rates && steps && ratio && pow_2_fast(black_box(3.0), 2) == 8.0
+}
+
+/// Within a thousandth of the power of two, from −240 to 240 in steps of a 256th.
+fn ratios() -> bool {
+    (-240 * 256..=240 * 256).all(|step| {
+        let semitones = step as f32 / 256.0;
+        let exact = (semitones as f64 / 12.0).exp2();
+        (semitones_to_ratio_safe(black_box(semitones)) as f64 / exact - 1.0).abs() < 1e-3
+    })
 }
 
 fn tables() -> bool {

@@ -12,6 +12,9 @@ Inv-loop script₀ answers₀ run₀ turns₀ script answers run turns = (length
 abbrev μ-loop : tie.MeasureT-loop
 μ-loop script₀ answers₀ run₀ turns₀ script answers run turns = turns
 
+new-requires : tie.Need-new-requires Inv-loop μ-loop
+new-requires c κs = search needs
+
 loop-holds : tie.Need-loop-holds Inv-loop μ-loop
 loop-holds c = omega arith
 
@@ -51,6 +54,7 @@ replay-spec =
     (tie.spec
     Inv-loop
     μ-loop
+    new-requires
     loop-holds
     turn-requires
     sub-turns

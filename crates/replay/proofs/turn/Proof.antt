@@ -11,14 +11,20 @@ least-requires c κs = search needs
 read-behind-requires : tie.Need-read-behind-requires
 read-behind-requires c κs = search needs
 
-slice-reshare-prefix-answer-some : tie.Need-slice-reshare-prefix-answer-some
-slice-reshare-prefix-answer-some c = search needs
+slice-reshare-prefix-answer-all : tie.Need-slice-reshare-prefix-answer-all
+slice-reshare-prefix-answer-all c = search needs
 
-slice-aggregate-answer-some : tie.Need-slice-aggregate-answer-some
-slice-aggregate-answer-some c = simp length-take (omega arith)
+slice-aggregate-answer-all : tie.Need-slice-aggregate-answer-all
+slice-aggregate-answer-all c = simp length-take (omega arith)
 
-answer-some-requires : tie.Need-answer-some-requires
-answer-some-requires c κs = search needs
+answer-all-requires : tie.Need-answer-all-requires
+answer-all-requires c κs = search needs
+
+least-requires-2 : tie.Need-least-requires-2
+least-requires-2 c κs = search needs
+
+least-requires-3 : tie.Need-least-requires-3
+least-requires-3 c κs = search needs
 
 slice-reshare-prefix-write-all : tie.Need-slice-reshare-prefix-write-all
 slice-reshare-prefix-write-all c = search needs
@@ -35,10 +41,8 @@ is-over-requires c κs = search needs
 keep-requires : tie.Need-keep-requires
 keep-requires c κs = search needs
 
-sub-t39 : tie.Need-sub-t39
-sub-t39 c =
-    let s = c .before .before .before .before .before .before .before .before .before .before in
-    omega (arith, simp length-take at (s .answer-some .ensures .0))
+sub-t47 : tie.Need-sub-t47
+sub-t47 c = search needs
 
 same-length : tie.Need-same-length
 same-length c = search needs
@@ -64,15 +68,17 @@ turn-spec =
     (tie.spec
     least-requires
     read-behind-requires
-    slice-reshare-prefix-answer-some
-    slice-aggregate-answer-some
-    answer-some-requires
+    slice-reshare-prefix-answer-all
+    slice-aggregate-answer-all
+    answer-all-requires
+    least-requires-2
+    least-requires-3
     slice-reshare-prefix-write-all
     slice-aggregate-write-all
     write-all-requires
     is-over-requires
     keep-requires
-    sub-t39
+    sub-t47
     same-length
     same-length-2
     returns

@@ -8,7 +8,7 @@ use Rattle.replay.proofs.wire.put_number.Statement.{statement}
 use Rattle.replay.proofs.wire.put_number.Tie as tie
 
 abbrev Inv-loop : tie.InvT-loop
-Inv-loop out₀ at n width rest₀ place₀ counter₀ out rest place counter = (length out ≡ length out₀) × (at ≤ place) × (counter ≤ width)
+Inv-loop out₀ at n width rest₀ place₀ counter₀ out rest place counter = (length out ≡ length out₀) × (counter ≤ width)
 
 abbrev μ-loop : tie.MeasureT-loop
 μ-loop out₀ at n width rest₀ place₀ counter₀ out rest place counter = width - counter
@@ -35,7 +35,7 @@ same-length : tie.Need-same-length Inv-loop μ-loop
 same-length c = omega arith
 
 returns : tie.Need-returns Inv-loop μ-loop
-returns c = omega arith
+returns c = tt
 
 pub put-number-spec : {M : Type 1} → statement M
 put-number-spec =

@@ -1,0 +1,236 @@
+//! The LFO. The generator's number is the Rust's own: set before a call, read after it. A phase not in 0 ≤ phase < 1 and a
+//! frequency negative or not finite get 9, then a sample rate 5, a field 6, a scale or sample 7.
+
+use crate::draw::Draw;
+use crate::entries::{Entry, entry};
+use crate::forms;
+use crate::patch::modulations_fit;
+use crate::script::Kind::{Bool, F32, F32s, I32, U8, U8s, U32};
+use crate::script::{Answer, Arguments};
+use crate::states::Registers;
+use plaits::fm::dx_units::lfo_frequency;
+use plaits::fm::lfo::Lfo;
+use plaits::fm::patch::ModulationParameters;
+use plaits::utils::random;
+
+const STATE: &str = "u8 number, the LFO and the generator's number";
+const PUT: &str = "the LFO and the generator's number: 10 × f32, u8 waveform, bool, i32, u32";
+const LENT: &str = "as without `_with`";
+
+pub const ENTRIES: &[Entry] = &[
+    entry(0x60, "put_lfo", &[F32s(10), U8, Bool, I32, U32], PUT, |a, r, o| {
+        forms::lfo(a, &mut r.lfo);
+        random::seed(a.u32());
+        write(o, r);
+    })
+    .drawn(states)
+    .with_state()
+    .weight(2),
+    entry(0x61, "lfo_init", &[F32], STATE, |a, r, o| {
+        let sample_rate = a.f32();
+        let number = if (8_000.0..=192_000.0).contains(&sample_rate) { 0 } else { 5 };
+        match number {
+            0 => r.lfo.init(sample_rate),
+            _ => r.lfo = Lfo::new(),
+        }
+        o.name("number").u8(number);
+        write(o, r);
+    })
+    .drawn(|draw| {
+        let rate = match draw.below(4) {
+            0 => {
+                let end = draw.one_of(&[8_000.0, 192_000.0]);
+                draw.near(end)
+            }
+            1 => draw.any_f32(),
+            _ => draw.one_of(&RATES),
+        };
+        draw.f32(rate);
+    })
+    .every(1, |_, draw| {
+        let rate = draw.one_of(&RATES);
+        draw.f32(rate);
+    })
+    .with_state()
+    .weight(1),
+    entry(0x62, "lfo_set", &[U8s(7)], STATE, |a, r, o| {
+        let mut modulations = ModulationParameters::default();
+        forms::modulations(a, &mut modulations);
+        let number = match state(&r.lfo) {
+            0 if !modulations_fit(&modulations, 7) => 6,
+            number => number,
+        };
+        if number == 0 {
+            r.lfo.set(&modulations);
+        }
+        o.name("number").u8(number);
+        write(o, r);
+    })
+    .drawn(|draw| {
+        for most in [99, 99, 99, 99, 1, 5, 7] {
+            let x = if draw.one_in(24) { draw.field_or_past(most) } else { draw.field(most) };
+            draw.u8(x);
+        }
+    })
+    .every(100 * 100 * 6, |k, draw| {
+        let fields = [k % 100, k / 100 % 100, k % 99, k / 7 % 100, k % 2, k / 10_000, k % 8];
+        fields.into_iter().for_each(|x| draw.u8(x as u8));
+    })
+    .with_state()
+    .weight(3),
+    entry(0x63, "lfo_reset", &[], STATE, |_, r, o| {
+        let number = state(&r.lfo);
+        if number == 0 {
+            r.lfo.reset();
+        }
+        o.name("number").u8(number);
+        write(o, r);
+    })
+    .with_state()
+    .weight(2),
+    entry(0x64, "lfo_step", &[F32], STATE, step)
+        .drawn(scales)
+        .every(1 << 18, |_, draw| scales(draw))
+        .with_state()
+        .weight(32),
+    entry(0x65, "lfo_scrub", &[F32], STATE, scrub)
+        .drawn(samples)
+        .every(1 << 18, |_, draw| samples(draw))
+        .with_state()
+        .weight(16),
+    entry(0x66, "lfo_value", &[], "u8 number, f32", |_, r, o| read(o, r, Lfo::value)).with_state().weight(4),
+    entry(0x67, "delay_ramp", &[], "u8 number, f32", |_, r, o| read(o, r, Lfo::delay_ramp)).with_state().weight(4),
+    entry(0x68, "pitch_mod", &[], "u8 number, f32", |_, r, o| read(o, r, Lfo::pitch_mod)).with_state().weight(4),
+    entry(0x69, "amp_mod", &[], "u8 number, f32", |_, r, o| read(o, r, Lfo::amp_mod)).with_state().weight(4),
+    entry(0x6a, "lfo_step_with", &[F32], LENT, step).drawn(scales).with_state().weight(8),
+    entry(0x6b, "lfo_scrub_with", &[F32], LENT, scrub).drawn(samples).with_state().weight(8),
+    entry(0x6c, "lfo_value_with", &[], LENT, |_, r, o| read(o, r, Lfo::value)).with_state().weight(4),
+];
+
+const RATES: [f32; 6] = [8_000.0, 22_050.0, 44_100.0, 48_000.0, 96_000.0, 192_000.0];
+
+fn write(o: &mut Answer, r: &mut Registers) {
+    forms::lfo(o, &mut r.lfo);
+    o.name("generator's number").u32(random::state());
+}
+
+/// 9 for a state that no call hands back.
+fn state(lfo: &Lfo) -> u8 {
+    let phase = lfo.phase >= 0.0 && lfo.phase < 1.0;
+    if phase && lfo.frequency >= 0.0 && lfo.frequency.is_finite() { 0 } else { 9 }
+}
+
+/// 9, or 7 for a number that is not finite, negative, or whose product with the frequency is not below `most`.
+fn moving(lfo: &Lfo, x: f32, most: f32) -> u8 {
+    match state(lfo) {
+        0 if !(x.is_finite() && x >= 0.0 && x * lfo.frequency < most) => 7,
+        number => number,
+    }
+}
+
+fn step(a: &mut Arguments, r: &mut Registers, o: &mut Answer) {
+    let scale = a.f32();
+    let number = moving(&r.lfo, scale, 1.0);
+    if number == 0 {
+        r.lfo.step(scale);
+    }
+    o.name("number").u8(number);
+    write(o, r);
+}
+
+fn scrub(a: &mut Arguments, r: &mut Registers, o: &mut Answer) {
+    let sample = a.f32();
+    let number = moving(&r.lfo, sample, 2f32.powi(31));
+    if number == 0 {
+        r.lfo.scrub(sample);
+    }
+    o.name("number").u8(number);
+    write(o, r);
+}
+
+fn read(o: &mut Answer, r: &Registers, value: fn(&Lfo) -> f32) {
+    let number = state(&r.lfo);
+    o.name("number").u8(number);
+    o.name("value").f32(if number == 0 { value(&r.lfo) } else { 0.0 });
+}
+
+/// A float of a state: of its own range, or any.
+fn float(draw: &mut Draw) -> f32 {
+    match draw.below(8) {
+        0 => draw.any_f32(),
+        1 => {
+            let test = draw.one_of(&[0.0, 0.5, 1.0]);
+            draw.near(test)
+        }
+        _ => draw.unit(),
+    }
+}
+
+/// Frequencies as patches bring them, or powers of two, whose products with scales lie near whole numbers.
+fn frequency(draw: &mut Draw) -> f32 {
+    match draw.below(8) {
+        0 => draw.any_f32(),
+        1 | 2 => 2f32.powi(-(draw.below(20) as i32)),
+        3 => draw.unit(),
+        _ => lfo_frequency(draw.field(99)) / draw.one_of(&RATES),
+    }
+}
+
+fn states(draw: &mut Draw) {
+    let phase = match draw.below(16) {
+        0 => draw.any_f32(),
+        1 => draw.one_of(&[0.0, -0.0, 0.5, 0.49999997, 0.99999994, 1.0]),
+        _ => draw.below(1 << 24) as f32 / (1 << 24) as f32,
+    };
+    let frequency = frequency(draw);
+    draw.f32(phase);
+    draw.f32(frequency);
+    for place in 2..10 {
+        let x = match place {
+            3 | 4 => draw.unit() * draw.one_of(&[1.0, 0.1, 0.001]),
+            7 => 1.0 / draw.one_of(&RATES),
+            _ => float(draw),
+        };
+        let x = if draw.one_in(24) { draw.any_f32() } else { x };
+        draw.f32(x);
+    }
+    let waveform = draw.field_or_past(5);
+    let reset = draw.below(2) as u8;
+    let whole = if draw.one_in(4) { draw.any_u32() } else { draw.below(10) };
+    let number = draw.any_u32();
+    draw.u8(waveform);
+    draw.u8(reset);
+    draw.u32(whole);
+    draw.u32(number);
+}
+
+/// Scales of blocks, or such that a product with a frequency is near 1, or any float.
+fn scales(draw: &mut Draw) {
+    let x = match draw.below(16) {
+        0 => draw.any_f32(),
+        1 => {
+            let power = 2f32.powi(draw.below(20) as i32);
+            draw.near(power)
+        }
+        2 => draw.unit() * 4.0,
+        3 => draw.unit() * 2e4,
+        4 => draw.one_of(&[0.0, -0.0]),
+        _ => draw.one_of(&[1.0, 24.0, 64.0, 128.0, 512.0, 1000.0]),
+    };
+    draw.f32(x);
+}
+
+/// Samples of a scrub: within some turns, far on, such that a product is near 2^31, or any float.
+fn samples(draw: &mut Draw) {
+    let x = match draw.below(16) {
+        0 => draw.any_f32(),
+        1 => {
+            let power = 2f32.powi(draw.below(52) as i32);
+            draw.near(power)
+        }
+        2 => draw.unit() * 1e9,
+        3 => draw.one_of(&[0.0, -0.0, 1.0]),
+        _ => draw.unit() * draw.one_of(&[100.0, 1e4, 1e5, 1e6]),
+    };
+    draw.f32(x);
+}

@@ -1,0 +1,372 @@
+//! Conversions, tables, sine, ratio and draws. Fields above their largest number get 6 and parameters outside their
+//! range 7, in document 01's order; a refused value is written as 0.
+
+use crate::draw::{Draw, quiet};
+use crate::entries::{Entry, entry};
+use crate::script::Answer;
+use crate::script::Kind::{F32, I32, U8, U8s, U32};
+use crate::states::step;
+use plaits::fm::dx_units::*;
+use plaits::fm::patch::{KeyboardScaling, Operator};
+use plaits::oscillator::sine_oscillator::{sine, sine_pm};
+use plaits::resources::sine::LUT_SINE;
+use plaits::utils::units::{LUT_PITCH_RATIO_HIGH, LUT_PITCH_RATIO_LOW, semitones_to_ratio_safe};
+use plaits::utils::{interpolate, interpolate_wrap, random};
+
+const FLOAT: &str = "u8 number, f32";
+
+pub const ENTRIES: &[Entry] = &[
+    entry(0x30, "pow_2_fast", &[F32, I32], "f32", |a, _, o| o.f32(pow_2_fast(a.f32(), a.i32())))
+        .drawn(powers)
+        .every(SPREAD, every_power),
+    entry(0x31, "operator_level", &[U8], "u8 number, u8", |a, _, o| {
+        let level = a.u8();
+        let number = field(level, 99);
+        o.name("number").u8(number);
+        o.name("level").u8(if number == 0 { operator_level(level) } else { 0 });
+    })
+    .drawn(|draw| one(draw, 99))
+    .every(256, every_u8),
+    entry(0x32, "pitch_envelope_level", &[U8], FLOAT, |a, _, o| convert(o, a.u8(), 99, pitch_envelope_level))
+        .drawn(|draw| one(draw, 99))
+        .every(256, every_u8),
+    entry(0x33, "operator_envelope_increment", &[U8], FLOAT, |a, _, o| {
+        convert(o, a.u8(), 99, operator_envelope_increment)
+    })
+    .drawn(|draw| one(draw, 99))
+    .every(256, every_u8),
+    entry(0x34, "pitch_envelope_increment", &[U8], FLOAT, |a, _, o| convert(o, a.u8(), 99, pitch_envelope_increment))
+        .drawn(|draw| one(draw, 99))
+        .every(256, every_u8),
+    entry(0x35, "lfo_frequency", &[U8], FLOAT, |a, _, o| convert(o, a.u8(), 99, lfo_frequency))
+        .drawn(|draw| one(draw, 99))
+        .every(256, every_u8),
+    entry(0x36, "lfo_delay", &[U8], "u8 number, f32, f32", |a, _, o| {
+        let delay = a.u8();
+        let number = field(delay, 99);
+        let mut increments = [0.0; 2];
+        if number == 0 {
+            lfo_delay(delay, &mut increments);
+        }
+        o.name("number").u8(number);
+        o.name("increments").f32s(&increments);
+    })
+    .drawn(|draw| one(draw, 99))
+    .every(256, every_u8),
+    entry(0x37, "normalize_velocity", &[F32], FLOAT, |a, _, o| {
+        let velocity = a.f32();
+        answer(o, range(velocity, 1.0), || normalize_velocity(velocity));
+    })
+    .drawn(|draw| {
+        let velocity = parameter(draw, 1.0);
+        draw.f32(velocity);
+    })
+    .every(1 << 20, |k, draw| draw.f32(k as f32 / ((1 << 20) - 1) as f32)),
+    entry(0x38, "rate_scaling", &[F32, U8], FLOAT, |a, _, o| {
+        let (note, scaling) = (a.f32(), a.u8());
+        answer(o, either(field(scaling, 7), range(note, 127.0)), || rate_scaling(note, scaling));
+    })
+    .drawn(|draw| {
+        let note = parameter(draw, 127.0);
+        draw.f32(note);
+        one(draw, 7);
+    })
+    .every(256 * 513, |k, draw| {
+        draw.f32((k / 256) as f32 * 0.25 - 0.25);
+        draw.u8(k as u8);
+    }),
+    entry(0x39, "amp_mod_sensitivity", &[U8], FLOAT, |a, _, o| convert(o, a.u8(), 3, amp_mod_sensitivity))
+        .drawn(|draw| one(draw, 3))
+        .every(256, every_u8),
+    entry(0x3a, "pitch_mod_sensitivity", &[U8], FLOAT, |a, _, o| convert(o, a.u8(), 7, pitch_mod_sensitivity))
+        .drawn(|draw| one(draw, 7))
+        .every(256, every_u8),
+    entry(0x3b, "keyboard_scaling", &[F32, U8s(5)], FLOAT, |a, _, o| {
+        let (note, [left_depth, right_depth, left_curve, right_curve, break_point]) = (a.f32(), a.u8s());
+        let depths = either(field(left_depth, 99), field(right_depth, 99));
+        let curves = either(field(left_curve, 3), field(right_curve, 3));
+        let number = either(either(depths, curves), either(field(break_point, 99), range(note, 127.0)));
+        let scaling = KeyboardScaling { left_depth, right_depth, left_curve, right_curve, break_point };
+        answer(o, number, || keyboard_scaling(note, &scaling));
+    })
+    .drawn(scalings)
+    .every(128 * 100 * 4 * 10, every_scaling),
+    entry(0x3c, "frequency_ratio", &[U8s(4)], "u8 number, u8 kind (0 to the note, 1 to 1 Hz), f32", |a, _, o| {
+        let [mode, coarse, fine, detune] = a.u8s();
+        let number = either(either(field(mode, 1), field(coarse, 31)), either(field(fine, 99), field(detune, 14)));
+        let kind = if number == 0 { mode } else { 0 };
+        o.name("number").u8(number);
+        o.name("kind").u8(kind);
+        let operator = Operator { mode, coarse, fine, detune, ..Operator::default() };
+        o.name("ratio").f32(if number == 0 { frequency_ratio(&operator) } else { 0.0 });
+    })
+    .drawn(|draw| [1, 31, 99, 14].into_iter().for_each(|most| one(draw, most)))
+    .every(3 * 33 * 101 * 16, |k, draw| {
+        [k / (33 * 101 * 16), k / (101 * 16) % 33, k / 16 % 101, k % 16].into_iter().for_each(|x| draw.u8(x as u8));
+    }),
+    entry(0x3d, "frequency_step", &[F32], "u32", |a, _, o| o.u32(step(a.f32())))
+        .drawn(|draw| {
+            let frequency = if draw.one_in(4) { draw.unit() } else { draw.quiet_f32() };
+            draw.f32(frequency);
+        })
+        .every(SPREAD, |k, draw| draw.f32(quiet(pattern(k, SPREAD)))),
+    entry(0x3e, "sine", &[F32], "f32", |a, _, o| o.f32(sine(a.f32())))
+        .drawn(|draw| {
+            let phase = index(draw);
+            draw.f32(phase);
+        })
+        .every(1 << 20, |k, draw| draw.f32(if k % 2 == 0 { pattern(k, 1 << 20) } else { k as f32 / (1 << 18) as f32 })),
+    entry(0x3f, "sine_pm", &[U32, F32], "f32", |a, _, o| o.f32(sine_pm(a.u32(), a.f32())))
+        .drawn(modulations)
+        .every(1 << 20, every_modulation),
+    entry(0x40, "semitones_to_ratio_safe", &[F32], "f32, 1 for NaN or outside −240 to 240", |a, _, o| {
+        let semitones = a.f32();
+        let inside = (-240.0..=240.0).contains(&semitones);
+        o.f32(if inside { semitones_to_ratio_safe(semitones) } else { 1.0 });
+    })
+    .drawn(semitones)
+    .every(1 << 20, |k, draw| draw.f32((k as f64 / ((1 << 20) - 1) as f64 * 482.0 - 241.0) as f32)),
+    entry(0x41, "get_float", &[U32], "u32 the generator's number, f32", |a, _, o| {
+        let (value, number) = drawn(a.u32(), random::get_float);
+        o.name("number").u32(number);
+        o.name("draw").f32(value);
+    })
+    .every(8 << 18, |k, draw| {
+        let start = [0, 1, 0x21, 0x7fff_ffff, 0x8000_0000, u32::MAX, 0x1234_5678, 1_013_904_223][(k >> 18) as usize];
+        draw.u32(later(start, k & ((1 << 18) - 1)));
+    }),
+    entry(0x42, "interpolate", &[U8, F32, F32], LOOKUP, |a, _, o| {
+        let (table, index, size) = (table(a.u8()), a.f32(), a.f32());
+        o.f32(held(table, index, size).unwrap_or_else(|| interpolate(table, index, size)));
+    })
+    .drawn(lookups),
+    entry(0x43, "interpolate_wrap", &[U8, F32, F32], "f32; as 42", |a, _, o| {
+        let (table, index, size) = (table(a.u8()), a.f32(), a.f32());
+        let part = index - index as i32 as f32;
+        o.f32(held(table, part, size).unwrap_or_else(|| interpolate_wrap(table, index, size)));
+    })
+    .drawn(lookups),
+    entry(0x44, "table_entry", &[U8, U32], TABLES, |a, _, o| {
+        let (name, place) = (a.u8(), a.usize());
+        let table: &[f32] = match name {
+            0 => &LUT_SINE,
+            1 => &LUT_PITCH_RATIO_HIGH,
+            2 => &LUT_PITCH_RATIO_LOW,
+            3 => &LUT_AMP_MOD_SENSITIVITY,
+            4 => &LUT_PITCH_MOD_SENSITIVITY,
+            _ => &[],
+        };
+        o.f32(table.get(place).copied().unwrap_or(0.0));
+    })
+    .drawn(|draw| {
+        let table = draw.below(7) as u8;
+        let place = if draw.one_in(8) { draw.any_u32() } else { draw.below(700) };
+        draw.u8(table);
+        draw.u32(place);
+    })
+    .every(8 * 700, |k, draw| {
+        draw.u8((k / 700) as u8);
+        draw.u32((k % 700) as u32);
+    }),
+    entry(0x45, "get_word", &[U32], "u32", |a, _, o| o.u32(drawn(a.u32(), random::get_word).0)),
+];
+
+const LOOKUP: &str = "f32; table 0 sine, 1 high ratios, else low; at its last entry and past it that entry";
+
+const TABLES: &str = "f32, 0 past the end; 0 sine, 1 high ratios, 2 low ratios, 3 amplitude and 4 pitch sensitivities";
+
+/// The orders from −1 to 5, and how many float patterns are tried.
+const ORDERS: u64 = 7;
+const SPREAD: u64 = 10_000_000;
+
+/// 6 for a field above its largest number.
+fn field(x: u8, most: u8) -> u8 {
+    if x > most { 6 } else { 0 }
+}
+
+/// 7 for a parameter that is NaN or outside 0 to `most`.
+fn range(x: f32, most: f32) -> u8 {
+    if x >= 0.0 && x <= most { 0 } else { 7 }
+}
+
+/// The lower of two numbers that apply.
+fn either(a: u8, b: u8) -> u8 {
+    if a == 0 || b != 0 && b < a { b } else { a }
+}
+
+fn answer(o: &mut Answer, number: u8, value: impl FnOnce() -> f32) {
+    o.name("number").u8(number);
+    o.name("value").f32(if number == 0 { value() } else { 0.0 });
+}
+
+fn convert(o: &mut Answer, x: u8, most: u8, value: fn(u8) -> f32) {
+    answer(o, field(x, most), || value(x));
+}
+
+/// The table that a lookup names.
+fn table(name: u8) -> &'static [f32] {
+    match name {
+        0 => &LUT_SINE,
+        1 => &LUT_PITCH_RATIO_HIGH,
+        _ => &LUT_PITCH_RATIO_LOW,
+    }
+}
+
+/// The table's last entry where a lookup reaches it or goes past it, at which the Rust panics.
+fn held(table: &[f32], index: f32, size: f32) -> Option<f32> {
+    let place = (index.clamp(0.0, 1.0) * size) as usize;
+    (place >= table.len() - 1).then(|| table[table.len() - 1])
+}
+
+/// A draw from a number, and the number after it. The register's own number, which the LFO draws from, stays.
+fn drawn<T>(number: u32, draw: fn() -> T) -> (T, u32) {
+    let kept = random::state();
+    random::seed(number);
+    let drawn = (draw(), random::state());
+    random::seed(kept);
+    drawn
+}
+
+/// The generator's number so many draws later.
+fn later(number: u32, mut draws: u64) -> u32 {
+    let (mut number, mut factor, mut sum) = (number, 1_664_525u32, 1_013_904_223u32);
+    while draws > 0 {
+        if draws % 2 == 1 {
+            number = number.wrapping_mul(factor).wrapping_add(sum);
+        }
+        sum = sum.wrapping_mul(factor.wrapping_add(1));
+        factor = factor.wrapping_mul(factor);
+        draws /= 2;
+    }
+    number
+}
+
+/// A field up to `most`, or now and then past it.
+fn one(draw: &mut Draw, most: u8) {
+    let x = draw.field_or_past(most);
+    draw.u8(x);
+}
+
+fn every_u8(k: u64, draw: &mut Draw) {
+    draw.u8(k as u8);
+}
+
+/// The float pattern with this number among `n` that are spread evenly over all.
+fn pattern(k: u64, n: u64) -> f32 {
+    let (from, to) = ((k << 32) / n, ((k + 1) << 32) / n);
+    f32::from_bits((from + k.wrapping_mul(0x9e37_79b9) % (to - from)) as u32)
+}
+
+/// A number from 0 to `most`, its ends and their neighbours often, now and then any float.
+fn parameter(draw: &mut Draw, most: f32) -> f32 {
+    match draw.below(8) {
+        0 => draw.near(most),
+        1 => draw.any_f32(),
+        2 => draw.below(most as u32 + 1) as f32,
+        3 => draw.one_of(&[0.0, -0.0, f32::from_bits(1), f32::from_bits(0x8000_0001)]),
+        _ => draw.unit() * most,
+    }
+}
+
+/// Whole numbers, halves and numbers beside them too, at which the exponent changes.
+fn powers(draw: &mut Draw) {
+    let x = match draw.below(4) {
+        0 => draw.any_f32(),
+        1 => draw.below(260) as f32 - 130.0,
+        2 => {
+            let whole = draw.below(260) as f32 - 130.0;
+            draw.near(whole)
+        }
+        _ => (draw.unit() - 0.5) * 300.0,
+    };
+    let order = if draw.one_in(8) { draw.any_u32() } else { draw.below(ORDERS as u32).wrapping_sub(1) };
+    draw.f32(x);
+    draw.u32(order);
+}
+
+fn every_power(k: u64, draw: &mut Draw) {
+    draw.f32(pattern(k, SPREAD));
+    draw.u32(((k % ORDERS) as u32).wrapping_sub(1));
+}
+
+fn scalings(draw: &mut Draw) {
+    let break_point = draw.field_or_past(99);
+    let note = match draw.below(4) {
+        0 => draw.near(break_point as f32 + 15.0),
+        _ => parameter(draw, 127.0),
+    };
+    draw.f32(note);
+    [99, 99, 3, 3].into_iter().for_each(|most| one(draw, most));
+    draw.u8(break_point);
+}
+
+/// All notes, break points and curves, each with ten depths; the other side's numbers differ.
+fn every_scaling(k: u64, draw: &mut Draw) {
+    let (note, break_point, curve, depth) = (k / 4_000, k / 40 % 100, k / 10 % 4, k * 7 % 100);
+    draw.f32(note as f32);
+    [depth, 99 - depth, curve, 3 - curve, break_point].into_iter().for_each(|x| draw.u8(x as u8));
+}
+
+/// A phase or an index: in the table's turn, beside its entries, or any float.
+fn index(draw: &mut Draw) -> f32 {
+    match draw.below(8) {
+        0 | 1 => draw.any_f32(),
+        2 => {
+            let entry = draw.below(700) as f32 / 512.0;
+            draw.near(entry)
+        }
+        3 => draw.unit() * 1000.0,
+        4 => -draw.unit(),
+        _ => draw.unit(),
+    }
+}
+
+/// A phase of 32 bits, and a modulation within ±32, at its ends, or any float.
+fn modulations(draw: &mut Draw) {
+    let phase = draw.any_u32();
+    let modulation = match draw.below(8) {
+        0 | 1 => draw.any_f32(),
+        2 => {
+            let end = draw.one_of(&[-32.0, 32.0, -31.999998, 31.999998]);
+            draw.near(end)
+        }
+        _ => (draw.unit() - 0.5) * 64.0,
+    };
+    draw.u32(phase);
+    draw.f32(modulation);
+}
+
+/// Phases spread over the turn; every other modulation any float, the rest from just below −32 to just above 32.
+fn every_modulation(k: u64, draw: &mut Draw) {
+    draw.u32((k << 12) as u32 ^ (k as u32).wrapping_mul(0x9e37_79b9) >> 20);
+    draw.f32(if k % 2 == 0 { pattern(k, 1 << 20) } else { (k % 65_537) as f32 / 1000.0 - 32.7 });
+}
+
+fn semitones(draw: &mut Draw) {
+    let x = match draw.below(8) {
+        0 => draw.any_f32(),
+        1 => {
+            let end = draw.one_of(&[-240.0, -120.0, 120.0, 240.0]);
+            draw.near(end)
+        }
+        2 => (draw.below(481 * 256) as f32) / 256.0 - 240.5,
+        3 => {
+            let step = draw.below(481 * 256) as f32 / 256.0 - 240.5;
+            draw.near(step)
+        }
+        _ => (draw.unit() - 0.5) * 482.0,
+    };
+    draw.f32(x);
+}
+
+fn lookups(draw: &mut Draw) {
+    let (table, index) = (draw.below(4) as u8, index(draw));
+    let size = match draw.below(4) {
+        0 => draw.any_f32(),
+        1 => draw.one_of(&[0.0, 1.0, 255.0, 256.0, 512.0, 640.0, 641.0]),
+        _ => draw.unit() * 700.0,
+    };
+    draw.u8(table);
+    draw.f32(index);
+    draw.f32(size);
+}
