@@ -1,0 +1,119 @@
+-- `block::call_external` meets its contract: what is rendered into its part is what `called` says.
+-- Assumes nothing.
+use mathlib.Core.Path.{_≡_, sym, ap, _∙_}
+use native.Mathlib.Omega.{arith}
+use denote.Ref.{now}
+use borrow.Author.Needs.{needs}
+use Rattle.operator.specs.Chain.{one}
+use Rattle.operator.specs.Chain.Source.{external}
+use Rattle.block.specs.Calls.{chainAt}
+use Rattle.block.proofs.Quarters.{aside-at}
+use Rattle.block.proofs.Calls.{source-external, call-law}
+use Rattle.block.proofs.call_external.Statement.{statement}
+use Rattle.block.proofs.call_external.Tie as tie
+
+start-requires : tie.Need-start-requires
+start-requires c κs = search needs
+
+add-copy-aside : tie.Need-add-copy-aside
+add-copy-aside c = search needs
+
+mul-copy-aside : tie.Need-mul-copy-aside
+mul-copy-aside c = search needs
+
+sub-copy-aside : tie.Need-sub-copy-aside
+sub-copy-aside c = search needs
+
+part-copy-aside-start : tie.Need-part-copy-aside-start
+part-copy-aside-start c = search needs
+
+part-copy-aside-end : tie.Need-part-copy-aside-end
+part-copy-aside-end c = search needs
+
+copy-aside-requires : tie.Need-copy-aside-requires
+copy-aside-requires c κs = search needs
+
+start-requires-2 : tie.Need-start-requires-2
+start-requires-2 c κs = search needs
+
+single-of-requires : tie.Need-single-of-requires
+single-of-requires c κs = search needs
+
+sub-render-external : tie.Need-sub-render-external
+sub-render-external c = search needs
+
+part-render-external-start : tie.Need-part-render-external-start
+part-render-external-start c = search needs
+
+part-render-external-end : tie.Need-part-render-external-end
+part-render-external-end c = search needs
+
+add-render-external : tie.Need-add-render-external
+add-render-external c = search needs
+
+mul-render-external : tie.Need-mul-render-external
+mul-render-external c = search needs
+
+sub-render-external-2 : tie.Need-sub-render-external-2
+sub-render-external-2 c = search needs
+
+part-render-external-start-2 : tie.Need-part-render-external-start-2
+part-render-external-start-2 c = search needs
+
+part-render-external-end-2 : tie.Need-part-render-external-end-2
+part-render-external-end-2 c = search needs
+
+render-external-requires : tie.Need-render-external-requires
+render-external-requires c κs = search needs
+
+single-back-requires : tie.Need-single-back-requires
+single-back-requires c κs = omega (arith, c .before .before .before .before .before .before .before .before .before .before .before .before .before .before .before .before .before)
+
+same-length : tie.Need-same-length
+same-length c = search needs
+
+same-length-2 : tie.Need-same-length-2
+same-length-2 c = search needs
+
+returns : tie.Need-returns
+returns c =
+    let back = c .single-back in
+    let rendered = c .before .before .before .render-external in
+    let of = c .before .before .before .before .before .before .before .single-of in
+    let start = c .before .before .before .before .before .before .before .before .start2 in
+    let at = c .before .before .before .before .before .before .before .before .before .before .before .before .before .before .before .before .before .before in
+    let call = at .args .c in
+    let aside = c .before .before .before .before .before .before .before .before .before .before .before .copy-aside in
+    let from = c .before .before .before .before .before .before .before .before .before .before .before .before .before .before .before .start in
+    let modulation = aside-at (at .args .n) (call .input) (from .result) (now (at .args .block)) (at .pre .0 .input) (at .pre .1 .whole) (from .ensures .0) (aside .last .1 .0) (aside .ensures) in
+    let n : call .n ≡ 1 = at .pre .0 .single (λ z. omega arith) in
+    call-law (now (at .args .lut)) (at .args .g) call (at .args .v) (at .args .n) (start .result) (now (at .args .block)) (rendered .last .1 .1 .1 .1 .0)
+    (external _) (one (of .result)) (one (rendered .result)) (back .result) (at .pre .0 .output) (at .pre .1 .whole) (start .ensures .0)
+    (source-external (at .args .g) call _ (at .pre .3) (at .pre .4) _ modulation) (of .ensures ∙ ap (chainAt (at .args .g) (at .args .v) (call .first)) (sym n)) (back .ensures) (rendered .kept .1 .1 .1 .1 .0) (rendered .ensures)
+
+pub call-external-spec : {M : Type 1} → statement M
+call-external-spec =
+    tie.close
+    (tie.spec
+    start-requires
+    add-copy-aside
+    mul-copy-aside
+    sub-copy-aside
+    part-copy-aside-start
+    part-copy-aside-end
+    copy-aside-requires
+    start-requires-2
+    single-of-requires
+    sub-render-external
+    part-render-external-start
+    part-render-external-end
+    add-render-external
+    mul-render-external
+    sub-render-external-2
+    part-render-external-start-2
+    part-render-external-end-2
+    render-external-requires
+    single-back-requires
+    same-length
+    same-length-2
+    returns)

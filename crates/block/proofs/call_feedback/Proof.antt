@@ -1,0 +1,70 @@
+-- `block::call_feedback` meets its contract: what is rendered into its part is what `called` says.
+-- Assumes nothing.
+use mathlib.Core.Path.{_≡_, sym, ap, _∙_}
+use denote.Ref.{now}
+use borrow.Author.Needs.{needs}
+use Rattle.operator.specs.Chain.{one}
+use Rattle.operator.specs.Chain.Source.{feedback}
+use Rattle.block.specs.Calls.{chainAt}
+use Rattle.block.proofs.Calls.{source-feedback, call-law}
+use Rattle.block.proofs.call_feedback.Statement.{statement}
+use Rattle.block.proofs.call_feedback.Tie as tie
+
+start-requires : tie.Need-start-requires
+start-requires c κs = search needs
+
+single-of-requires : tie.Need-single-of-requires
+single-of-requires c κs = search needs
+
+add-render-feedback : tie.Need-add-render-feedback
+add-render-feedback c = search needs
+
+mul-render-feedback : tie.Need-mul-render-feedback
+mul-render-feedback c = search needs
+
+sub-render-feedback : tie.Need-sub-render-feedback
+sub-render-feedback c = search needs
+
+part-render-feedback-start : tie.Need-part-render-feedback-start
+part-render-feedback-start c = search needs
+
+part-render-feedback-end : tie.Need-part-render-feedback-end
+part-render-feedback-end c = search needs
+
+render-feedback-requires : tie.Need-render-feedback-requires
+render-feedback-requires c κs = search needs
+
+single-back-requires : tie.Need-single-back-requires
+single-back-requires c κs = search needs
+
+same-length : tie.Need-same-length
+same-length c = search needs
+
+returns : tie.Need-returns
+returns c =
+    let back = c .single-back in
+    let rendered = c .before .before .before .render-feedback in
+    let of = c .before .before .before .before .before .single-of in
+    let start = c .before .before .before .before .before .before .start in
+    let at = c .before .before .before .before .before .before .before .before in
+    let call = at .args .c in
+    let n : call .n ≡ 1 = at .pre .3 in
+    call-law (now (at .args .lut)) (at .args .g) call (at .args .v) (at .args .n) (start .result) (now (at .args .block)) (rendered .last .1 .1 .1 .1 .0)
+    (feedback (at .args .g .feedback)) (one (of .result)) (one (rendered .result)) (back .result) (at .pre .0 .output) (at .pre .1 .whole) (start .ensures .0)
+    (source-feedback (at .args .g) call _ (at .pre .2)) (of .ensures ∙ ap (chainAt (at .args .g) (at .args .v) (call .first)) (sym n)) (back .ensures) (rendered .kept .1 .1 .1 .1 .0) (rendered .ensures)
+
+pub call-feedback-spec : {M : Type 1} → statement M
+call-feedback-spec =
+    tie.close
+    (tie.spec
+    start-requires
+    single-of-requires
+    add-render-feedback
+    mul-render-feedback
+    sub-render-feedback
+    part-render-feedback-start
+    part-render-feedback-end
+    render-feedback-requires
+    single-back-requires
+    same-length
+    returns)

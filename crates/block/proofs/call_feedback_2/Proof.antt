@@ -1,0 +1,70 @@
+-- `block::call_feedback_2` meets its contract: what is rendered into its part is what `called` says.
+-- Assumes nothing.
+use mathlib.Core.Path.{_≡_, sym, ap, _∙_}
+use denote.Ref.{now}
+use borrow.Author.Needs.{needs}
+use Rattle.operator.specs.Chain.{two}
+use Rattle.operator.specs.Chain.Source.{feedback}
+use Rattle.block.specs.Calls.{chainAt}
+use Rattle.block.proofs.Calls.{source-feedback, call-law}
+use Rattle.block.proofs.call_feedback_2.Statement.{statement}
+use Rattle.block.proofs.call_feedback_2.Tie as tie
+
+start-requires : tie.Need-start-requires
+start-requires c κs = search needs
+
+pair-of-requires : tie.Need-pair-of-requires
+pair-of-requires c κs = search needs
+
+add-render-feedback-2 : tie.Need-add-render-feedback-2
+add-render-feedback-2 c = search needs
+
+mul-render-feedback-2 : tie.Need-mul-render-feedback-2
+mul-render-feedback-2 c = search needs
+
+sub-render-feedback-2 : tie.Need-sub-render-feedback-2
+sub-render-feedback-2 c = search needs
+
+part-render-feedback-2-start : tie.Need-part-render-feedback-2-start
+part-render-feedback-2-start c = search needs
+
+part-render-feedback-2-end : tie.Need-part-render-feedback-2-end
+part-render-feedback-2-end c = search needs
+
+render-feedback-2-requires : tie.Need-render-feedback-2-requires
+render-feedback-2-requires c κs = search needs
+
+pair-back-requires : tie.Need-pair-back-requires
+pair-back-requires c κs = search needs
+
+same-length : tie.Need-same-length
+same-length c = search needs
+
+returns : tie.Need-returns
+returns c =
+    let back = c .pair-back in
+    let rendered = c .before .before .before .render-feedback-2 in
+    let of = c .before .before .before .before .before .pair-of in
+    let start = c .before .before .before .before .before .before .start in
+    let at = c .before .before .before .before .before .before .before .before in
+    let call = at .args .c in
+    let n : call .n ≡ 2 = at .pre .3 in
+    call-law (now (at .args .lut)) (at .args .g) call (at .args .v) (at .args .n) (start .result) (now (at .args .block)) (rendered .last .1 .1 .1 .1 .0)
+    (feedback (at .args .g .feedback)) (two (of .result)) (two (rendered .result)) (back .result) (at .pre .0 .output) (at .pre .1 .whole) (start .ensures .0)
+    (source-feedback (at .args .g) call _ (at .pre .2)) (of .ensures ∙ ap (chainAt (at .args .g) (at .args .v) (call .first)) (sym n)) (back .ensures) (rendered .kept .1 .1 .1 .1 .0) (rendered .ensures)
+
+pub call-feedback-2-spec : {M : Type 1} → statement M
+call-feedback-2-spec =
+    tie.close
+    (tie.spec
+    start-requires
+    pair-of-requires
+    add-render-feedback-2
+    mul-render-feedback-2
+    sub-render-feedback-2
+    part-render-feedback-2-start
+    part-render-feedback-2-end
+    render-feedback-2-requires
+    pair-back-requires
+    same-length
+    returns)

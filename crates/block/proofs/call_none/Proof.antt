@@ -1,0 +1,71 @@
+-- `block::call_none` meets its contract: what is rendered into its part is what `called` says.
+-- Assumes nothing.
+use mathlib.Core.Path.{_≡_, sym, ap, _∙_}
+use native.Mathlib.Omega.{arith}
+use denote.Ref.{now}
+use borrow.Author.Needs.{needs}
+use Rattle.operator.specs.Chain.{one}
+use Rattle.operator.specs.Chain.Source.{none}
+use Rattle.block.specs.Calls.{chainAt}
+use Rattle.block.proofs.Calls.{source-none, call-law}
+use Rattle.block.proofs.call_none.Statement.{statement}
+use Rattle.block.proofs.call_none.Tie as tie
+
+start-requires : tie.Need-start-requires
+start-requires c κs = search needs
+
+single-of-requires : tie.Need-single-of-requires
+single-of-requires c κs = search needs
+
+add-render-none : tie.Need-add-render-none
+add-render-none c = search needs
+
+mul-render-none : tie.Need-mul-render-none
+mul-render-none c = search needs
+
+sub-render-none : tie.Need-sub-render-none
+sub-render-none c = search needs
+
+part-render-none-start : tie.Need-part-render-none-start
+part-render-none-start c = search needs
+
+part-render-none-end : tie.Need-part-render-none-end
+part-render-none-end c = search needs
+
+render-none-requires : tie.Need-render-none-requires
+render-none-requires c κs = search needs
+
+single-back-requires : tie.Need-single-back-requires
+single-back-requires c κs = search needs
+
+same-length : tie.Need-same-length
+same-length c = search needs
+
+returns : tie.Need-returns
+returns c =
+    let back = c .single-back in
+    let rendered = c .before .before .before .render-none in
+    let of = c .before .before .before .before .before .single-of in
+    let start = c .before .before .before .before .before .before .start in
+    let at = c .before .before .before .before .before .before .before .before in
+    let call = at .args .c in
+    let n : call .n ≡ 1 = at .pre .0 .single (λ z. omega arith) in
+    call-law (now (at .args .lut)) (at .args .g) call (at .args .v) (at .args .n) (start .result) (now (at .args .block)) (rendered .last .1 .1 .1 .0)
+    none (one (of .result)) (one (rendered .result)) (back .result) (at .pre .0 .output) (at .pre .1 .whole) (start .ensures .0)
+    (source-none (at .args .g) call _ (at .pre .2)) (of .ensures ∙ ap (chainAt (at .args .g) (at .args .v) (call .first)) (sym n)) (back .ensures) (rendered .kept .1 .1 .1 .0) (rendered .ensures)
+
+pub call-none-spec : {M : Type 1} → statement M
+call-none-spec =
+    tie.close
+    (tie.spec
+    start-requires
+    single-of-requires
+    add-render-none
+    mul-render-none
+    sub-render-none
+    part-render-none-start
+    part-render-none-end
+    render-none-requires
+    single-back-requires
+    same-length
+    returns)

@@ -1,0 +1,82 @@
+-- `block::run_calls` meets its contract. The loop's invariant: the desk is what the first k calls make of the one at entry.
+-- Assumes nothing.
+use mathlib.Core.Path.{_≡_, refl, ap, _∙_}
+use Prim.Native.Nat.{_-_, _≤_}
+use native.Mathlib.Numerals.{add-one}
+use denote.Ref.{now}
+use lib.ListN.{length, getD}
+use native.Mathlib.Omega.{arith}
+use Rattle.algorithms.specs.Plan.{noCall}
+use Rattle.block.specs.Calls.{desk, called, calledUpTo}
+use Rattle.block.proofs.run_calls.Statement.{statement}
+use Rattle.block.proofs.run_calls.Tie as tie
+
+abbrev Inv-loop : tie.InvT-loop
+Inv-loop lut g n aside₀ block₀ plan count v₀ k₀ aside block v k =
+    (k ≤ plan .count) × (desk n v block ≡ calledUpTo lut g (plan .calls) k (desk n v₀ block₀)) × (length block ≡ length block₀) × (length aside ≡ length aside₀)
+
+abbrev μ-loop : tie.MeasureT-loop
+μ-loop lut g n aside₀ block₀ plan count v₀ k₀ aside block v k = plan .count - k
+
+cast-count : tie.Need-cast-count Inv-loop μ-loop
+cast-count c = omega arith
+
+loop-holds : tie.Need-loop-holds Inv-loop μ-loop
+unfolding calledUpTo
+loop-holds c = (omega arith, refl, refl, refl)
+
+mul-c : tie.Need-mul-c Inv-loop μ-loop
+mul-c c = omega arith
+
+element-copy-out-c : tie.Need-element-copy-out-c Inv-loop μ-loop
+element-copy-out-c c = omega arith
+
+call-requires : tie.Need-call-requires Inv-loop μ-loop
+call-requires c κs = (c .before .before .before .before .before .before .before .pre .0 .calls (c .before .before .before .before .loop .k) (c .before .before .before .loop-test .taken), record { small = omega arith; whole = omega arith }, omega arith)
+
+add-k : tie.Need-add-k Inv-loop μ-loop
+add-k c = omega arith
+
+loop-less : tie.Need-loop-less Inv-loop μ-loop
+loop-less c = omega arith
+
+loop-again : tie.Need-loop-again Inv-loop μ-loop
+unfolding calledUpTo
+loop-again c =
+    let one = c .before .before .before .before .call in
+    let at = c .before .before .before .before .before .before .before .before .before in
+    let start = c .before .before .before .before .before .before .before .before .before .before .before .before .args in (
+      omega (arith, c .before .before .before .before .before .before .before .before),
+      rw (add-one (at .loop .k)) (one .ensures ∙ ap (called (now (start .lut)) (start .g) (getD (start .t3 .calls) (at .loop .k) noCall)) (at .loop .inv .1)),
+      one .kept .1 .1 .1 .1 .1 .1 .0 ∙ at .loop .inv .2,
+      one .kept .1 .1 .1 .1 .1 .0 ∙ at .loop .inv .3,
+    )
+
+same-length : tie.Need-same-length Inv-loop μ-loop
+same-length c = c .before .loop .inv .3
+
+same-length-2 : tie.Need-same-length-2 Inv-loop μ-loop
+same-length-2 c = c .before .loop .inv .2
+
+returns : tie.Need-returns Inv-loop μ-loop
+returns c =
+    let k : c .before .loop .k ≡ c .before .before .before .before .args .t3 .count = omega arith in
+    rw k at (c .before .loop .inv .1)
+
+pub run-calls-spec : {M : Type 1} → statement M
+run-calls-spec =
+    tie.close
+    (tie.spec
+    Inv-loop
+    μ-loop
+    cast-count
+    loop-holds
+    mul-c
+    element-copy-out-c
+    call-requires
+    add-k
+    loop-less
+    loop-again
+    same-length
+    same-length-2
+    returns)
