@@ -38,9 +38,16 @@ fn mixed_scaling(k: KeyboardScaling) -> u8 {
 }
 
 fn mixed_operator(o: Operator) -> u8 {
-    let envelope = o.envelope;
+    let e = o.envelope;
     let scaling = o.keyboard_scaling;
-    mixed_envelope(envelope)
+    e.rate[0]
+        ^ e.rate[1]
+        ^ e.rate[2]
+        ^ e.rate[3]
+        ^ e.level[0]
+        ^ e.level[1]
+        ^ e.level[2]
+        ^ e.level[3]
         ^ mixed_scaling(scaling)
         ^ o.rate_scaling
         ^ o.amp_mod_sensitivity

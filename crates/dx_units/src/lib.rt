@@ -4,6 +4,7 @@
 // themselves, for callers that have checked their fields, are in `inner`.
 ghost use mathlib.Core.Path.{_≡_};
 ghost use Rattle.dx_units.specs.Pow.{pow2Fast, stepFor};
+ghost use Rattle.dx_units.specs.Tables.{lutCoarse, lutCubeRoot};
 ghost use Rattle.dx_units.specs.Answers.{operatorLevelAnswer, pitchEnvelopeLevelAnswer};
 ghost use Rattle.dx_units.specs.Answers.{operatorEnvelopeIncrementAnswer, pitchEnvelopeIncrementAnswer};
 ghost use Rattle.dx_units.specs.Answers.{lfoFrequencyAnswer, lfoDelayAnswer, normalizeVelocityAnswer};
@@ -274,4 +275,17 @@ fn frequency_fits(mode: u8, coarse: u8, fine: u8, detune: u8) -> bool
         return false;
     }
     true
+}
+
+// Two tables whole, which no conversion shows entry by entry, to be compared with the Rust's.
+pub fn lut_coarse() -> [f32; 32]
+    ensures { λ r. ⌜ r ≡ lutCoarse ⌝ }
+{
+    tables::LUT_COARSE
+}
+
+pub fn lut_cube_root() -> [f32; 17]
+    ensures { λ r. ⌜ r ≡ lutCubeRoot ⌝ }
+{
+    tables::LUT_CUBE_ROOT
 }

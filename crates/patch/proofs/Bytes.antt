@@ -1,8 +1,9 @@
 -- The packed bytes, block by block: what the stores leave is what the table says. Assumes nothing.
 use mathlib.Core.Path.{_≡_, refl, sym, _∙_, ap}
 use mathlib.Core.List.{List, [], _∷_, _++_, map}
-use Prim.Native.Nat.{ℕ, _+_, _*_, _%_}
+use Prim.Native.Nat.{ℕ, zero, suc, _+_, _*_, _%_}
 use native.Mathlib.Nat.{add-zero, mul-one, add-assoc}
+use native.Mathlib.Numerals.{add-one}
 use lib.ListN.{getD, replicate}
 use lib.Seq.{paste}
 use Rattle.patch.specs.declared.Operator.{Operator}
@@ -73,14 +74,17 @@ whole : (p : Patch)
 unfolding operatorBytes sharedBytes bytesOf
 whole p = refl
 
+-- zeros with the first k operators' bytes pasted in, each into its place
+unfoldable pub firstBlocks : List Operator → ℕ → List ℕ
+firstBlocks os zero = replicate 128 0
+firstBlocks os (suc k) = paste (firstBlocks os k) (17 * k) (operatorBytes (operatorAt os k)) 17
+
+-- one more
+pub next-block : (os : List Operator) (k : ℕ) (l m : List ℕ) → l ≡ firstBlocks os k → m ≡ paste l (17 * k) (operatorBytes (operatorAt os k)) 17 → m ≡ firstBlocks os (k + 1)
+unfolding firstBlocks
+next-block os k l m e f = rw (add-one, sym e) f
+
 -- six operators and the rest, each pasted into its place, are the packed patch
-pub pasted : (p : Patch) (l₀ l₁ l₂ l₃ l₄ l₅ l₆ : List ℕ)
-    → l₀ ≡ paste (replicate 128 0) 0 (operatorBytes (operatorAt (p .op) 0)) 17
-    → l₁ ≡ paste l₀ 17 (operatorBytes (operatorAt (p .op) 1)) 17
-    → l₂ ≡ paste l₁ 34 (operatorBytes (operatorAt (p .op) 2)) 17
-    → l₃ ≡ paste l₂ 51 (operatorBytes (operatorAt (p .op) 3)) 17
-    → l₄ ≡ paste l₃ 68 (operatorBytes (operatorAt (p .op) 4)) 17
-    → l₅ ≡ paste l₄ 85 (operatorBytes (operatorAt (p .op) 5)) 17
-    → l₆ ≡ paste l₅ 102 (sharedBytes p) 26
-    → l₆ ≡ packed p
-pasted p l₀ l₁ l₂ l₃ l₄ l₅ l₆ e₀ e₁ e₂ e₃ e₄ e₅ e₆ = rw (e₆, e₅, e₄, e₃, e₂, e₁, e₀) (whole p ∙ sym (by-blocks p))
+pub pasted : (p : Patch) (k : ℕ) (l m : List ℕ) → k ≡ 6 → l ≡ firstBlocks (p .op) k → m ≡ paste l 102 (sharedBytes p) 26 → m ≡ packed p
+unfolding firstBlocks
+pasted p k l m six e f = f ∙ ap (λ (x : List ℕ). paste x 102 (sharedBytes p) 26) (e ∙ ap (firstBlocks (p .op)) six) ∙ (whole p ∙ sym (by-blocks p))

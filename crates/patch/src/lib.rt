@@ -180,6 +180,26 @@ fn unpack_scaling(s: &[u8], at: usize) -> KeyboardScaling
     }
 }
 
+// An operator with the envelope whose first byte stands at `at`. Each number is stored by itself: an envelope that is handed on
+// as a value would be put together in a register, bit by bit, where eight bytes can be clamped as one.
+fn unpack_stages(s: &[u8], at: usize) -> Operator
+    requires { ⌜ at + 8 ≤ length (now s) ⌝ }
+    ensures { λ r. ⌜ r .envelope ≡ envelopeWith (λ n. readIn (now (s .entry)) (later at (envelopeField n))) ⌝ }
+{
+    let mut o = fresh_operator();
+    let mut e = o.envelope;
+    e.rate[0] = whole(s, at);
+    e.rate[1] = whole(s, at + 1);
+    e.rate[2] = whole(s, at + 2);
+    e.rate[3] = whole(s, at + 3);
+    e.level[0] = whole(s, at + 4);
+    e.level[1] = whole(s, at + 5);
+    e.level[2] = whole(s, at + 6);
+    e.level[3] = whole(s, at + 7);
+    o.envelope = e;
+    o
+}
+
 // The operator whose first byte stands at `at`.
 fn unpack_operator(s: &[u8], at: usize) -> Operator
     requires { ⌜ at + 17 ≤ length (now s) ⌝ }
@@ -188,20 +208,18 @@ fn unpack_operator(s: &[u8], at: usize) -> Operator
     let rates = s[at + 12];
     let sensitivities = s[at + 13];
     let tuning = s[at + 15];
-    let envelope = unpack_envelope(s, at);
-    let keyboard_scaling = unpack_scaling(s, at);
-    Operator {
-        envelope,
-        keyboard_scaling,
-        rate_scaling: field(rates, 1, 8, 7),
-        amp_mod_sensitivity: field(sensitivities, 1, 4, 3),
-        velocity_sensitivity: field(sensitivities, 4, 8, 7),
-        level: whole(s, at + 14),
-        mode: field(tuning, 1, 2, 1),
-        coarse: field(tuning, 2, 32, 31),
-        fine: whole(s, at + 16),
-        detune: field(rates, 8, 16, 14),
-    }
+    let mut o = unpack_stages(s, at);
+    let scaling = unpack_scaling(s, at);
+    o.keyboard_scaling = scaling;
+    o.rate_scaling = field(rates, 1, 8, 7);
+    o.amp_mod_sensitivity = field(sensitivities, 1, 4, 3);
+    o.velocity_sensitivity = field(sensitivities, 4, 8, 7);
+    o.level = whole(s, at + 14);
+    o.mode = field(tuning, 1, 2, 1);
+    o.coarse = field(tuning, 2, 32, 31);
+    o.fine = whole(s, at + 16);
+    o.detune = field(rates, 8, 16, 14);
+    o
 }
 
 fn unpack_modulations(s: &[u8]) -> ModulationParameters
@@ -502,12 +520,11 @@ fn pack_whole(p: Patch) -> [u8; 128]
 {
     let op = p.op;
     let mut out = [0u8; 128];
-    put_operator(&mut out, 0, op[0]);
-    put_operator(&mut out, 17, op[1]);
-    put_operator(&mut out, 34, op[2]);
-    put_operator(&mut out, 51, op[3]);
-    put_operator(&mut out, 68, op[4]);
-    put_operator(&mut out, 85, op[5]);
+    let mut i = 0usize;
+    while i < 6 {
+        put_operator(&mut out, 17 * i, op[i]);
+        i += 1;
+    }
     put_shared(&mut out, p);
     out
 }

@@ -124,6 +124,8 @@ fn table_entry(table: u8, index: u32) -> f32 {
         2 => at(&units::lut_pitch_ratio_low(), place),
         3 => sensitivity(dx_units::amp_mod_sensitivity(short(index))),
         4 => sensitivity(dx_units::pitch_mod_sensitivity(short(index))),
+        5 => at(&dx_units::lut_coarse(), place),
+        6 => at(&dx_units::lut_cube_root(), place),
         _ => 0.0,
     }
 }

@@ -154,12 +154,14 @@ pub const ENTRIES: &[Entry] = &[
             2 => &LUT_PITCH_RATIO_LOW,
             3 => &LUT_AMP_MOD_SENSITIVITY,
             4 => &LUT_PITCH_MOD_SENSITIVITY,
+            5 => &LUT_COARSE,
+            6 => &LUT_CUBE_ROOT,
             _ => &[],
         };
         o.f32(table.get(place).copied().unwrap_or(0.0));
     })
     .drawn(|draw| {
-        let table = draw.below(7) as u8;
+        let table = draw.below(9) as u8;
         let place = if draw.one_in(8) { draw.any_u32() } else { draw.below(700) };
         draw.u8(table);
         draw.u32(place);
@@ -173,7 +175,8 @@ pub const ENTRIES: &[Entry] = &[
 
 const LOOKUP: &str = "f32; table 0 sine, 1 high ratios, else low; at its last entry and past it that entry";
 
-const TABLES: &str = "f32, 0 past the end; 0 sine, 1 high ratios, 2 low ratios, 3 amplitude and 4 pitch sensitivities";
+const TABLES: &str =
+    "f32, 0 past the end; 0 sine, 1 high ratios, 2 low ratios, 3 amplitude and 4 pitch sensitivities, 5 coarse, 6 cube roots";
 
 /// The orders from −1 to 5, and how many float patterns are tried.
 const ORDERS: u64 = 7;

@@ -1,68 +1,66 @@
--- `patch::pack_whole` meets its contract. Seven blocks pasted into zeros are the packed patch. Assumes nothing.
+-- `patch::pack_whole` meets its contract. The invariant: the first i operators are pasted into zeros. Assumes nothing.
+use mathlib.Core.Path.{_≡_, refl}
+use Prim.Native.Nat.{_-_, _≤_}
+use native.Mathlib.Omega.{arith}
 use borrow.Author.Needs.{needs}
 use Rattle.patch.specs.Form.{operatorAt, noOperator, scalingWith}
-use Rattle.patch.proofs.Bytes.{pasted}
+use Rattle.patch.proofs.Bytes.{firstBlocks, next-block, pasted}
 use Rattle.patch.proofs.pack_whole.Statement.{statement}
 use Rattle.patch.proofs.pack_whole.Tie as tie
 
-array-copy-out-put-operator : tie.Need-array-copy-out-put-operator
-array-copy-out-put-operator c = search needs
+abbrev Inv-loop : tie.InvT-loop
+Inv-loop p op out₀ i₀ out i = (i ≤ 6) × (out ≡ firstBlocks op i)
 
-put-operator-requires : tie.Need-put-operator-requires
+abbrev μ-loop : tie.MeasureT-loop
+μ-loop p op out₀ i₀ out i = 6 - i
+
+loop-holds : tie.Need-loop-holds Inv-loop μ-loop
+unfolding firstBlocks
+loop-holds c = (omega arith, refl)
+
+mul-put-operator : tie.Need-mul-put-operator Inv-loop μ-loop
+mul-put-operator c = omega arith
+
+mul-put-operator-2 : tie.Need-mul-put-operator-2 Inv-loop μ-loop
+mul-put-operator-2 c = omega arith
+
+array-copy-out-put-operator : tie.Need-array-copy-out-put-operator Inv-loop μ-loop
+array-copy-out-put-operator c = omega arith
+
+put-operator-requires : tie.Need-put-operator-requires Inv-loop μ-loop
 put-operator-requires c κs = search needs
 
-array-copy-out-put-operator-2 : tie.Need-array-copy-out-put-operator-2
-array-copy-out-put-operator-2 c = search needs
+add-i : tie.Need-add-i Inv-loop μ-loop
+add-i c = omega arith
 
-put-operator-requires-2 : tie.Need-put-operator-requires-2
-put-operator-requires-2 c κs = search needs
+loop-less : tie.Need-loop-less Inv-loop μ-loop
+loop-less c = omega arith
 
-array-copy-out-put-operator-3 : tie.Need-array-copy-out-put-operator-3
-array-copy-out-put-operator-3 c = search needs
+loop-again : tie.Need-loop-again Inv-loop μ-loop
+unfolding operatorAt noOperator scalingWith
+loop-again c = (omega arith, next-block (c .before .before .before .before .before .before .args .p .op) (c .before .before .before .before .loop .i) _ _ (c .before .before .before .before .loop .inv .1) (c .put-operator .ensures))
 
-put-operator-requires-3 : tie.Need-put-operator-requires-3
-put-operator-requires-3 c κs = search needs
-
-array-copy-out-put-operator-4 : tie.Need-array-copy-out-put-operator-4
-array-copy-out-put-operator-4 c = search needs
-
-put-operator-requires-4 : tie.Need-put-operator-requires-4
-put-operator-requires-4 c κs = search needs
-
-array-copy-out-put-operator-5 : tie.Need-array-copy-out-put-operator-5
-array-copy-out-put-operator-5 c = search needs
-
-put-operator-requires-5 : tie.Need-put-operator-requires-5
-put-operator-requires-5 c κs = search needs
-
-array-copy-out-put-operator-6 : tie.Need-array-copy-out-put-operator-6
-array-copy-out-put-operator-6 c = search needs
-
-put-operator-requires-6 : tie.Need-put-operator-requires-6
-put-operator-requires-6 c κs = search needs
-
-put-shared-requires : tie.Need-put-shared-requires
+put-shared-requires : tie.Need-put-shared-requires Inv-loop μ-loop
 put-shared-requires c κs = search needs
 
-returns : tie.Need-returns
-unfolding operatorAt noOperator scalingWith
-returns c = pasted (c .before .before .before .before .before .before .before .before .before .before .before .before .before .before .before .before .before .before .before .before .before .args .p) (c .before .before .before .before .before .before .before .before .before .before .before .before .before .before .before .before .before .put-operator .last .0) (c .before .before .before .before .before .before .before .before .before .before .before .before .before .before .put-operator2 .last .0) (c .before .before .before .before .before .before .before .before .before .before .before .put-operator3 .last .0) (c .before .before .before .before .before .before .before .before .put-operator4 .last .0) (c .before .before .before .before .before .put-operator5 .last .0) (c .before .before .put-operator6 .last .0) (c .put-shared .last .0) (c .before .before .before .before .before .before .before .before .before .before .before .before .before .before .before .before .before .put-operator .ensures) (c .before .before .before .before .before .before .before .before .before .before .before .before .before .before .put-operator2 .ensures) (c .before .before .before .before .before .before .before .before .before .before .before .put-operator3 .ensures) (c .before .before .before .before .before .before .before .before .put-operator4 .ensures) (c .before .before .before .before .before .put-operator5 .ensures) (c .before .before .put-operator6 .ensures) (c .put-shared .ensures)
+returns : tie.Need-returns Inv-loop μ-loop
+returns c =
+    let six : c .before .before .before .loop .i ≡ 6 = omega arith in
+    pasted (c .before .before .before .before .before .args .p) _ _ _ six (c .before .before .before .loop .inv .1) (c .put-shared .ensures)
 
 pub pack-whole-spec : {M : Type 1} → statement M
 pack-whole-spec =
     tie.close
     (tie.spec
+    Inv-loop
+    μ-loop
+    loop-holds
+    mul-put-operator
+    mul-put-operator-2
     array-copy-out-put-operator
     put-operator-requires
-    array-copy-out-put-operator-2
-    put-operator-requires-2
-    array-copy-out-put-operator-3
-    put-operator-requires-3
-    array-copy-out-put-operator-4
-    put-operator-requires-4
-    array-copy-out-put-operator-5
-    put-operator-requires-5
-    array-copy-out-put-operator-6
-    put-operator-requires-6
+    add-i
+    loop-less
+    loop-again
     put-shared-requires
     returns)

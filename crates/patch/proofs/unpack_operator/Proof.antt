@@ -24,8 +24,8 @@ add-tuning c = search needs
 shared-slice-read-tuning : tie.Need-shared-slice-read-tuning
 shared-slice-read-tuning c = search needs
 
-unpack-envelope-requires : tie.Need-unpack-envelope-requires
-unpack-envelope-requires c κs = search needs
+unpack-stages-requires : tie.Need-unpack-stages-requires
+unpack-stages-requires c κs = search needs
 
 unpack-scaling-requires : tie.Need-unpack-scaling-requires
 unpack-scaling-requires c κs = search needs
@@ -62,7 +62,7 @@ field-requires-6 c κs = search needs
 
 returns : tie.Need-returns
 unfolding operatorWith readIn bitsIn later operatorField
-returns c = cc
+returns c = rw (c .field6 .ensures, c .before .whole2 .ensures, c .before .before .field5 .ensures, c .before .before .before .field4 .ensures, c .before .before .before .before .whole .ensures, c .before .before .before .before .before .field3 .ensures, c .before .before .before .before .before .before .field2 .ensures, c .before .before .before .before .before .before .before .field .ensures, c .before .before .before .before .before .before .before .before .unpack-scaling .ensures, c .before .before .before .before .before .before .before .before .before .unpack-stages .ensures)
 
 pub unpack-operator-spec : {M : Type 1} → statement M
 unpack-operator-spec =
@@ -74,7 +74,7 @@ unpack-operator-spec =
     shared-slice-read-sensitivities
     add-tuning
     shared-slice-read-tuning
-    unpack-envelope-requires
+    unpack-stages-requires
     unpack-scaling-requires
     field-requires
     field-requires-2

@@ -1,4 +1,4 @@
--- `patch::Patch::new` meets its contract. Each number is 0, by computation. Assumes nothing.
+-- `patch::Patch::new` meets its contract. Its operators are fresh, each other number is 0. Assumes nothing.
 use borrow.Author.Needs.{needs}
 use Rattle.patch.specs.Form.{envelopeWith, scalingWith, operatorWith, modulationsWith, nameWith, patchWith, zeroPatch}
 use Rattle.patch.proofs.Patch.new.Statement.{statement}
