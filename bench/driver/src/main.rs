@@ -1,13 +1,45 @@
 //! Times the proved code and the original Rust on the same work, and holds their results to be equal.
 
 use plaits::fm::algorithms::{Algorithms, OPCODES_6_32};
+use plaits::fm::operator::{self as fm, RenderFn, render_operators};
 use plaits::fm::patch::{Envelope, Operator, Patch};
 use plaits::oscillator::sine_oscillator::sine_pm;
+use std::cell::RefCell;
 use std::hint::black_box;
 use std::time::Instant;
 
 unsafe extern "C" {
-    fn bench_sine_pm(phase: u32, step: u32, pm: f32, pm_step: f32, out: *mut f32, len: usize);
+    fn bench_sine_pm(blocks: u32, phase: u32, step: u32, pm: f32, pm_step: f32, out: *mut f32, len: usize);
+    fn bench_render_none(
+        blocks: u32,
+        size: u32,
+        frequency: f32,
+        target: f32,
+        add: u8,
+        out: *mut f32,
+        len: usize,
+    ) -> u32;
+    fn bench_render_external(
+        blocks: u32,
+        size: u32,
+        frequency: f32,
+        target: f32,
+        add: u8,
+        modulation: *const f32,
+        modulation_len: usize,
+        out: *mut f32,
+        len: usize,
+    ) -> u32;
+    fn bench_render_feedback(
+        blocks: u32,
+        size: u32,
+        frequency: f32,
+        target: f32,
+        amount: u8,
+        add: u8,
+        out: *mut f32,
+        len: usize,
+    ) -> u32;
     fn bench_unpack(bytes: *const u8, len: usize) -> u8;
     fn bench_pack(bytes: *const u8, len: usize) -> u8;
     fn bench_validate(dump: *const u8, len: usize) -> u8;
@@ -29,22 +61,22 @@ fn race(what: &str, per: f64, mut ours: impl FnMut(), mut rust: impl FnMut()) {
     println!("| {what} | {:.2} | {:.2} | {:.2} |", nanos(least_ours), nanos(least_rust), least_ours / least_rust);
 }
 
+/// Blocks of the sine, one after the other in the same place: each starts one further on than the last.
 fn sine_block(samples: usize) {
-    let blocks = 100_000 / samples;
+    let blocks = (100_000 / samples) as u32;
     let (mut a, mut b) = (vec![0f32; samples], vec![0f32; samples]);
-    let (phase, step, pm, pm_step) = (black_box(77u32), black_box(12_345_678u32), black_box(-0.3f32), black_box(0.001f32));
+    let (start, step, pm, pm_step) =
+        (black_box(77u32), black_box(12_345_678u32), black_box(-0.3f32), black_box(0.001f32));
     race(
         &format!("`sine_pm`, blocks of {samples}: ns a sample"),
-        (blocks * samples) as f64,
+        (blocks as usize * samples) as f64,
         || {
-            for _ in 0..blocks {
-                unsafe { bench_sine_pm(phase, step, pm, pm_step, a.as_mut_ptr(), samples) };
-                black_box(&a);
-            }
+            unsafe { bench_sine_pm(blocks, start, step, pm, pm_step, a.as_mut_ptr(), samples) };
+            black_box(&a);
         },
         || {
-            for _ in 0..blocks {
-                let (mut phase, mut pm) = (phase, pm);
+            for k in 0..blocks {
+                let (mut phase, mut pm) = (start.wrapping_add(k), pm);
                 for out in b.iter_mut() {
                     phase = phase.wrapping_add(step);
                     *out = sine_pm(phase, pm);
@@ -54,7 +86,90 @@ fn sine_block(samples: usize) {
             }
         },
     );
-    assert!(a.iter().zip(&b).all(|(x, y)| x.to_bits() == y.to_bits()), "the two sides differ");
+    assert!(same(&a, &b), "the two sides differ");
+}
+
+fn same(a: &[f32], b: &[f32]) -> bool {
+    a.iter().zip(b).all(|(x, y)| x.to_bits() == y.to_bits())
+}
+
+/// Blocks of one operator, one after the other in the same place. The Rust's renderer is called by a pointer, as its
+/// voice calls it.
+fn operator_block(
+    what: &str,
+    samples: usize,
+    render: RenderFn,
+    mut ours: impl FnMut(u32, u32, &[f32], &mut [f32]) -> u32,
+) {
+    let blocks = 100_000 / samples;
+    let mut modulation: Vec<f32> = bytes(samples).iter().map(|x| *x as f32 / 64.0 - 2.0).collect();
+    let (mut a, mut b) = (vec![0f32; samples], vec![0f32; samples]);
+    let (mut phase, mut operators) = (0, [fm::Operator::new()]);
+    let buffer = modulation.clone();
+    race(
+        &format!("{what}, blocks of {samples}: ns a sample"),
+        (blocks * samples) as f64,
+        || {
+            phase = ours(blocks as u32, samples as u32, &buffer, &mut a);
+            black_box(&a);
+        },
+        || {
+            operators = [fm::Operator::new()];
+            let mut feedback = [0.0; 2];
+            let (input, output) = (RefCell::new(&mut modulation[..]), RefCell::new(&mut b[..]));
+            let render = black_box(render);
+            for _ in 0..blocks {
+                render(&mut operators, &[FREQUENCY], &[TARGET], &mut feedback, AMOUNT as i32, &input, &output);
+            }
+        },
+    );
+    assert!(phase == operators[0].phase && same(&a, &b), "the two sides differ");
+}
+
+const FREQUENCY: f32 = 0.0123;
+const TARGET: f32 = 0.8;
+const AMOUNT: u8 = 5;
+
+fn operators(samples: usize) {
+    operator_block("an operator alone", samples, render_operators::<1, -1, false>, |blocks, size, _, out| unsafe {
+        bench_render_none(blocks, size, black_box(FREQUENCY), TARGET, black_box(0), out.as_mut_ptr(), out.len())
+    });
+    operator_block(
+        "an operator, modulated",
+        samples,
+        render_operators::<1, -2, false>,
+        |blocks, size, input, out| unsafe {
+            let (from, len) = (input.as_ptr(), input.len());
+            bench_render_external(
+                blocks,
+                size,
+                black_box(FREQUENCY),
+                TARGET,
+                black_box(0),
+                from,
+                len,
+                out.as_mut_ptr(),
+                out.len(),
+            )
+        },
+    );
+    operator_block(
+        "an operator with feedback",
+        samples,
+        render_operators::<1, 0, false>,
+        |blocks, size, _, out| unsafe {
+            bench_render_feedback(
+                blocks,
+                size,
+                black_box(FREQUENCY),
+                TARGET,
+                AMOUNT,
+                black_box(0),
+                out.as_mut_ptr(),
+                out.len(),
+            )
+        },
+    );
 }
 
 fn mixed_envelope(e: &Envelope) -> u8 {
@@ -158,6 +273,9 @@ fn main() {
     println!("| work | ours | the Rust | ratio |\n|---|---|---|---|");
     for samples in [24, 64, 256, 1024] {
         sine_block(samples);
+    }
+    for samples in [24, 64, 256, 1024] {
+        operators(samples);
     }
     patches();
     bank();

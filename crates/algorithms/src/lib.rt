@@ -214,14 +214,20 @@ fn is_unready(flags: &[bool; 4], c: Call) -> bool
 fn refused(number: u8, at: u8) -> Planned
     ensures { λ r. ⌜ r ≡ refusal number at ⌝ }
 {
-    let c = no_call();
     Planned {
         number: number,
         at: at,
-        plan: Plan {
-            count: 0,
-            calls: [c, c, c, c, c, c],
-        },
+        plan: no_plan(),
+    }
+}
+
+pub fn no_plan() -> Plan
+    ensures { λ r. ⌜ r ≡ noPlan ⌝ }
+{
+    let c = no_call();
+    Plan {
+        count: 0,
+        calls: [c, c, c, c, c, c],
     }
 }
 
@@ -272,7 +278,7 @@ fn compile_calls(operators: usize, row: &[u8; 6]) -> Planned
     }
 }
 
-fn is_counted(operators: usize) -> bool
+pub fn is_counted(operators: usize) -> bool
     ensures { λ r. ⌜ r ≡ counted operators ⌝ }
 {
     if operators == 4 {

@@ -1,18 +1,41 @@
 // The work that bench/run times, in a form that a Rust program can link. Each function does one kind
 // of work many times over, so that the call itself costs next to nothing, and answers a sum of all
 // that was computed, so that nothing can be left out.
+ghost use Prim.Native.Nat.{_≤_};
+ghost use lib.ListN.{length};
 use algorithms::Call;
+use operator::Feedback;
+use operator::Single;
 use patch::Envelope;
 use patch::KeyboardScaling;
 use patch::ModulationParameters;
 use patch::Operator;
 use patch::Patch;
 
-// The sine at each sample of a block, the phase moving by a step and the modulation by another.
+// Blocks of the sine, one after the other in the same place: each starts one further on than the last, the
+// phase moves by a step and the modulation by another. The table is made once and lent.
 #[no_mangle]
-pub extern "C" fn bench_sine_pm(phase: u32, step: u32, pm: f32, pm_step: f32, out: &mut [f32]) {
+pub extern "C" fn bench_sine_pm(
+    blocks: u32,
+    phase: u32,
+    step: u32,
+    pm: f32,
+    pm_step: f32,
+    out: &mut [f32],
+) {
     let lut = sine::lut_sine();
-    sine_block(&lut, phase, step, pm, pm_step, out);
+    let mut k = 0u32;
+    while k < blocks {
+        sine_block(
+            &lut,
+            numbers::wrapping_add_u32(phase, k),
+            step,
+            pm,
+            pm_step,
+            out,
+        );
+        k += 1;
+    }
 }
 
 fn sine_block(lut: &[f32; 641], phase: u32, step: u32, pm: f32, pm_step: f32, out: &mut [f32]) {
@@ -25,6 +48,108 @@ fn sine_block(lut: &[f32; 641], phase: u32, step: u32, pm: f32, pm_step: f32, ou
         by = by + pm_step;
         i += 1;
     }
+}
+
+// One operator with its feedback at rest.
+fn silent() -> Single {
+    Single {
+        first: operator::enter(operator::Operator::new(), 0, 0.0, 0.0),
+        feedback: Feedback {
+            previous_0: 0.0,
+            previous_1: 0.0,
+        },
+    }
+}
+
+// An operator as the last block left it, at the start of the next one of `size` samples.
+fn entered(s: Single, size: u32, frequency: f32, target: f32) -> Single {
+    let step = dx_units::frequency_step(frequency);
+    let l = s.first;
+    let f = s.feedback;
+    Single {
+        first: operator::enter(operator::leave(l), step, target, operator::ramp_scale(size)),
+        feedback: f,
+    }
+}
+
+// Blocks of one operator, one after the other in the same place: that nothing modulates, that a buffer
+// modulates, and that its own samples modulate. Each answers the phase at the end.
+#[no_mangle]
+pub extern "C" fn bench_render_none(
+    blocks: u32,
+    size: u32,
+    frequency: f32,
+    target: f32,
+    add: u8,
+    out: &mut [f32],
+) -> u32 {
+    let lut = sine::lut_sine();
+    let mut s = silent();
+    let mut k = 0u32;
+    while k < blocks {
+        s = operator::render_none(&lut, entered(s, size, frequency, target), add != 0, out);
+        k += 1;
+    }
+    s.first.phase
+}
+
+#[no_mangle]
+pub extern "C" fn bench_render_external(
+    blocks: u32,
+    size: u32,
+    frequency: f32,
+    target: f32,
+    add: u8,
+    modulation: &[f32],
+    out: &mut [f32],
+) -> u32 {
+    if modulation.len() < out.len() {
+        return 0;
+    }
+    external_blocks(blocks, size, frequency, target, add, modulation, out)
+}
+
+fn external_blocks(
+    blocks: u32,
+    size: u32,
+    frequency: f32,
+    target: f32,
+    add: u8,
+    modulation: &[f32],
+    out: &mut [f32],
+) -> u32
+    requires { ⌜ length (now out) ≤ length (now modulation) ⌝ }
+{
+    let lut = sine::lut_sine();
+    let mut s = silent();
+    let mut k = 0u32;
+    while k < blocks {
+        let from = entered(s, size, frequency, target);
+        s = operator::render_external(&lut, from, add != 0, modulation, out);
+        k += 1;
+    }
+    s.first.phase
+}
+
+#[no_mangle]
+pub extern "C" fn bench_render_feedback(
+    blocks: u32,
+    size: u32,
+    frequency: f32,
+    target: f32,
+    amount: u8,
+    add: u8,
+    out: &mut [f32],
+) -> u32 {
+    let lut = sine::lut_sine();
+    let mut s = silent();
+    let mut k = 0u32;
+    while k < blocks {
+        let from = entered(s, size, frequency, target);
+        s = operator::render_feedback(&lut, from, operator::feedback_scale(amount), add != 0, out);
+        k += 1;
+    }
+    s.first.phase
 }
 
 fn mixed_envelope(e: Envelope) -> u8 {

@@ -12,8 +12,7 @@ ghost use Rattle.numbers.specs.Words.{sum32, difference32, product32, sh
 ghost use Rattle.numbers.specs.Words.{sumSigned, differenceSigned};
 
 // Rust's `x as u32`: the fraction dropped, the nearer end where x is out of range, 0 for a NaN. From
-// 2^23 on an f32 is whole, so the cast by way of f64 loses nothing: this is the innermost loop's
-// path, a compare or two and one conversion.
+// 2^23 on an f32 is whole, so the cast by way of f64 loses nothing: two compares and one conversion.
 pub fn f32_as_u32(x: f32) -> u32
     ensures { λ r. ⌜ r ≡ toUnsigned 32 x ⌝ }
 {

@@ -1,2 +1,3 @@
 pub mod Bounded
 pub mod Fraction
+pub mod Near

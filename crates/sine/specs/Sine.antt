@@ -11,9 +11,13 @@ use Rattle.utils.specs.Interpolate.{interpolatedWrap}
 unfoldable pub sineOf : List Float → Float → Float
 sineOf lut phase = interpolatedWrap lut phase (decimal 512 0)
 
--- a phase of 32 bits plus a modulation in turns, wrapped: the modulation is lifted by 32 and cut to 32 bits in steps of 1 / 2 ^ 26
+-- a modulation in turns, lifted by 32 and cut to 32 bits in steps of 1 / 2 ^ 26
+unfoldable pub stepsOf : Float → ℕ
+stepsOf pm = toUnsigned 32 ((pm ⊕ decimal 32 0) ⊗ (decimal 4294967296 0 ⊘ decimal 64 0))
+
+-- a phase of 32 bits plus a modulation, wrapped: a step is 64 of the phase's
 unfoldable pub modulated : ℕ → Float → ℕ
-modulated phase pm = sum32 phase (product32 (toUnsigned 32 ((pm ⊕ decimal 32 0) ⊗ (decimal 4294967296 0 ⊘ decimal 64 0))) 64)
+modulated phase pm = sum32 phase (product32 (stepsOf pm) 64)
 
 -- the straight line between two entries: a phase's highest nine bits name the first, the others say how far on
 unfoldable pub phaseLine : List Float → ℕ → Float

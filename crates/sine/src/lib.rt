@@ -7,7 +7,7 @@ ghost use lib.Dec.{T};
 ghost use lib.ListN.{getD};
 ghost use lib.Ieee.{nan};
 ghost use Rattle.sine.specs.Table.{lutSine};
-ghost use Rattle.sine.specs.Sine.{sineOf, modulated, phaseLine, sinePm};
+ghost use Rattle.sine.specs.Sine.{sineOf, stepsOf, modulated, phaseLine, sinePm};
 ghost use Rattle.sine.specs.Bound.{within};
 
 mod table;
@@ -38,9 +38,23 @@ pub fn sine_pm(lut: &[f32; 641], phase: u32, pm: f32) -> f32
 fn modulate(phase: u32, pm: f32) -> u32
     ensures { λ r. ⌜ r ≡ modulated phase pm ⌝ }
 {
+    numbers::wrapping_add_u32(phase, steps(pm) << 6)
+}
+
+// A modulation in steps. From -31 to 30 turns they are whole already and below 2^32: this is the innermost
+// loop's path, with a test that need not wait for the sum, and one conversion that multiplies as well.
+fn steps(pm: f32) -> u32
+    ensures { λ r. ⌜ r ≡ stepsOf pm ⌝ }
+{
     let scale = 4294967296.0 / 64.0;
-    let turns = numbers::f32_as_u32((pm + 32.0) * scale);
-    numbers::wrapping_add_u32(phase, turns << 6)
+    let lifted = pm + 32.0;
+    if (pm >= -31.0) & (pm <= 30.0) {
+        return ((lifted * scale) as f64) as u32;
+    }
+    if lifted >= 64.0 {
+        return u32::MAX;
+    }
+    numbers::f32_as_u32(lifted * scale)
 }
 
 // The straight line between the two entries around a phase. Its lowest 23 bits over 2^23 are an f32,

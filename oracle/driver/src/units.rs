@@ -18,7 +18,7 @@ const FLOAT: &str = "u8 number, f32";
 pub const ENTRIES: &[Entry] = &[
     entry(0x30, "pow_2_fast", &[F32, I32], "f32", |a, _, o| o.f32(pow_2_fast(a.f32(), a.i32())))
         .drawn(powers)
-        .every(SPREAD, every_power),
+        .every(SPREAD * ORDERS, every_power),
     entry(0x31, "operator_level", &[U8], "u8 number, u8", |a, _, o| {
         let level = a.u8();
         let number = field(level, 99);
@@ -288,7 +288,7 @@ fn powers(draw: &mut Draw) {
 }
 
 fn every_power(k: u64, draw: &mut Draw) {
-    draw.f32(pattern(k, SPREAD));
+    draw.f32(pattern(k / ORDERS, SPREAD));
     draw.u32(((k % ORDERS) as u32).wrapping_sub(1));
 }
 

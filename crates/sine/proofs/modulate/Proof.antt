@@ -6,15 +6,15 @@ use borrow.Author.Needs.{needs}
 use Rattle.sine.proofs.modulate.Statement.{statement}
 use Rattle.sine.proofs.modulate.Tie as tie
 
-f32-as-u32-requires : tie.Need-f32-as-u32-requires
-f32-as-u32-requires c κs = search needs
+steps-requires : tie.Need-steps-requires
+steps-requires c κs = search needs
 
 wrapping-add-u32-requires : tie.Need-wrapping-add-u32-requires
 wrapping-add-u32-requires c κs = search needs
 
 returns : tie.Need-returns
 unfolding modulated decimal ofBits
-returns c = simp (c .wrapping-add-u32 .ensures, c .before .f32-as-u32 .ensures)
+returns c = simp (c .wrapping-add-u32 .ensures, c .before .steps .ensures)
 
 pub modulate-spec : {M : Type 1} → statement M
-modulate-spec = tie.close (tie.spec f32-as-u32-requires wrapping-add-u32-requires returns)
+modulate-spec = tie.close (tie.spec steps-requires wrapping-add-u32-requires returns)

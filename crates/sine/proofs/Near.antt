@@ -1,0 +1,115 @@
+-- A modulation lifted by 32 and times 2 ^ 26, by where the modulation lies: from -31 to 30 the product is a whole number below 2 ^ 32,
+-- and where the lifted one is 64 or more it is 2 ^ 32 at least. Sums and products grow with what they are made of, rounded too.
+-- Assumes nothing.
+use mathlib.Core.Path.{_≡_, refl, sym, subst}
+use mathlib.Core.Bool.{Bool, true, false, _&&_, cond}
+use Prim.Native.Nat.{ℕ, _+_, _*_, _-_, _^_, _<_, _≤_}
+use native.Mathlib.Omega.{arith}
+use borrow.Author.Tests.{lt-ltb}
+use lib.Dec.{T, ltb, lt→ltb}
+use lib.IntN.{ℤ, pos}
+use lib.Ieee.{Float, nan, inf, fin, binary32, up, down, lt, le, eq, add, sum, mul, round, toUnsigned}
+use lib.Ieee.Bits.{is-true}
+use lib.Ieee.Fits.{down-pos}
+use lib.Ieee.Order.{round-mono}
+use lib.Ieee.Positive.{positive, between, first-pos, mul-mono}
+use Rattle.numbers.specs.F32.{_⊕_, _⊗_}
+use Rattle.numbers.proofs.Views.{no, or-le, or-ge, AtLeast, ge-inf, ge-fin, at-least, Under, lt-inf, lt-neg, lt-fin, nlt-inf, nlt-fin}
+use Rattle.numbers.proofs.Casts.{too-large, at-least-not-nan}
+
+-- the lift, the scale, and the ends of the lifted modulation
+abbrev pub lift : Float
+lift = fin false 1 (pos 5)
+
+abbrev pub scale : Float
+scale = fin false 1 (pos 26)
+
+abbrev low : Float
+low = fin false 1 (pos 0)
+
+abbrev high : Float
+high = fin false 31 (pos 1)
+
+same-scale : T (le scale scale)
+unfolding le lt eq
+same-scale = tt
+
+-- ---- the sum
+
+Within : Float → Type 0
+Within l = T (le low l) × T (le l high)
+
+rounded-within : (a c : ℕ) → 0 < c → c ≤ a → a ≤ 62 * c → Within (round binary32 false a c)
+unfolding Within round
+rounded-within a c p h k = (round-mono binary32 1 1 a c (omega arith) p (omega arith), round-mono binary32 a c 62 1 p (omega arith) (omega arith))
+
+lifted-within : (pm : Float) → le (fin true 31 (pos 0)) pm ≡ true → le pm (fin false 15 (pos 1)) ≡ true → Within (pm ⊕ lift)
+unfolding add sum le lt eq
+lifted-within nan h k = no h
+lifted-within (inf true) h k = no h
+lifted-within (inf false) h k = no k
+lifted-within (fin false m e) h k =
+    let z = or-le (m * up e * 1) (15 * 2 ^ 1 * down e) true k in
+    rounded-within (m * up e * 1 + 1 * 2 ^ 5 * down e) (down e * 1) (let d = down-pos e in omega arith) (omega arith) (omega arith)
+lifted-within (fin true m e) h k =
+    let z = or-ge (31 * 1 * down e) (m * up e * 1) true h in
+    let d = down-pos e in
+    let l : ltb (m * up e * 1) (1 * 2 ^ 5 * down e) ≡ true = lt-ltb (m * up e * 1) (1 * 2 ^ 5 * down e) (omega arith) in
+    subst (λ (b : Bool). Within (cond b (round binary32 false (1 * 2 ^ 5 * down e - m * up e * 1) (down e * 1)) (round binary32 (ltb (1 * 2 ^ 5 * down e) (m * up e * 1)) (m * up e * 1 - 1 * 2 ^ 5 * down e) (down e * 1)))) (sym l)
+    (rounded-within (1 * 2 ^ 5 * down e - m * up e * 1) (down e * 1) (omega arith) (omega arith) (omega arith))
+
+-- ---- the product
+
+at-most : (x : Float) → le x (fin false 31 (pos 27)) ≡ true → Under 32 x
+unfolding le lt eq
+at-most nan h = no h
+at-most (inf true) h = lt-inf
+at-most (inf false) h = no h
+at-most (fin true m e) h = lt-neg m e
+at-most (fin false m e) h = lt-fin m e (let z = or-le (m * up e * 1) (31 * 2 ^ 27 * down e) true h in let d = down-pos e in omega arith)
+
+-- 2 ^ 26 at least, so 2 ^ 23 at least
+fewer : (x : Float) → AtLeast 26 x → AtLeast 23 x
+fewer _ ge-inf = ge-inf
+fewer _ (ge-fin m e g) = ge-fin m e (omega arith)
+
+within-whole : (l : Float) → Within l → AtLeast 23 (l ⊗ scale)
+unfolding Within mul round
+within-whole l (h, k) =
+    fewer (l ⊗ scale) (at-least 26 (l ⊗ scale) (is-true (le (fin false 1 (pos 26)) (l ⊗ scale)) (mul-mono binary32 low l scale scale tt (between low l high tt tt h k) tt tt h same-scale)))
+
+within-below : (l : Float) → Within l → Under 32 (l ⊗ scale)
+unfolding Within mul round
+within-below l (h, k) = at-most (l ⊗ scale) (is-true (le (l ⊗ scale) (fin false 31 (pos 27))) (mul-mono binary32 l high scale scale (between low l high tt tt h k) tt tt tt k same-scale))
+
+-- from 64 on the cast gives the largest number
+all : (x : Float) → AtLeast 32 x → toUnsigned 32 x ≡ 2 ^ 32 - 1
+all _ ge-inf = too-large 32 (inf false) nlt-inf (at-least-not-nan 32 (inf false) ge-inf)
+all _ (ge-fin m e g) = too-large 32 (fin false m e) (nlt-fin m e g) (at-least-not-nan 32 (fin false m e) (ge-fin m e g))
+
+pub far-all : (l : Float) → le (fin false 1 (pos 6)) l ≡ true → toUnsigned 32 (l ⊗ scale) ≡ 2 ^ 32 - 1
+unfolding mul round
+far-all l h = go l h (at-least 6 l h)
+  where
+    go : (x : Float) → le (fin false 1 (pos 6)) x ≡ true → AtLeast 6 x → toUnsigned 32 (x ⊗ scale) ≡ 2 ^ 32 - 1
+    go _ k ge-inf = all (inf false) ge-inf
+    go _ k (ge-fin m e g) =
+        let p : T (positive (fin false m e)) = lt→ltb 0 m (first-pos m (up e) (let d = down-pos e in omega arith)) in
+        all (fin false m e ⊗ scale) (at-least 32 (fin false m e ⊗ scale) (is-true (le (fin false 1 (pos 32)) (fin false m e ⊗ scale)) (mul-mono binary32 (fin false 1 (pos 6)) (fin false m e) scale scale tt p tt tt (subst T (sym k) tt) same-scale)))
+
+-- ---- by the code's test
+
+both : (a b : Bool) → (a && b) ≡ true → (a ≡ true) × (b ≡ true)
+both true b h = (refl, h)
+both false b h = no h
+
+near-within : (pm : Float) → (le (fin true 31 (pos 0)) pm && le pm (fin false 15 (pos 1))) ≡ true → Within (pm ⊕ lift)
+near-within pm h =
+    let p = both (le (fin true 31 (pos 0)) pm) (le pm (fin false 15 (pos 1))) h in
+    lifted-within pm (p .0) (p .1)
+
+pub near-whole : (pm : Float) → (le (fin true 31 (pos 0)) pm && le pm (fin false 15 (pos 1))) ≡ true → AtLeast 23 ((pm ⊕ lift) ⊗ scale)
+near-whole pm h = within-whole (pm ⊕ lift) (near-within pm h)
+
+pub near-below : (pm : Float) → (le (fin true 31 (pos 0)) pm && le pm (fin false 15 (pos 1))) ≡ true → Under 32 ((pm ⊕ lift) ⊗ scale)
+near-below pm h = within-below (pm ⊕ lift) (near-within pm h)

@@ -1,0 +1,103 @@
+-- Number 9, test by test, and what an accepted state has. Assumes nothing.
+use mathlib.Core.Path.{_≡_, refl, sym, subst, _∙_, ap}
+use mathlib.Core.Bool.{Bool, true, false, cond, _&&_}
+use mathlib.Core.List.{List}
+use Prim.Native.Nat.{ℕ, _≤_, _<_}
+use native.Mathlib.Omega.{arith}
+use borrow.Author.Tests.{le-leb, lt-leb, eqb-true, eq-eqb, ne-eqb}
+use lib.Dec.{T, eqb, leb, leb→le}
+use lib.Ieee.Fits.{and-l, and-r}
+use Rattle.patch.specs.declared.Patch.{Patch}
+use Rattle.patch.specs.Packed.{patchFits}
+use Rattle.algorithms.specs.declared.Plan.{Plan}
+use Rattle.algorithms.specs.declared.Planned.{Planned}
+use Rattle.algorithms.specs.Plan.{counted, planned, samePlan}
+use Rattle.algorithms.proofs.Same.{same-plan-equal}
+use Rattle.envelope.specs.Answers.{isStage}
+use Rattle.voice_levels.specs.Levels.{allStages}
+use Rattle.voice.specs.declared.Voice.{Voice}
+use Rattle.voice.specs.Answers.{patchSound, stateFits}
+
+-- ---- a stored patch
+
+module _ (operators : ℕ) (p : Patch) (row : List ℕ) (plan : Plan) where
+  pub no-patch : patchFits p ≡ false → false ≡ patchSound operators p row plan
+  unfolding patchSound
+  no-patch h = simp h
+
+  module _ (fits : patchFits p ≡ true) {r : Planned} (e : r ≡ planned operators row) where
+    pub no-row : (r .number ≡ 0 → ⊥) → false ≡ patchSound operators p row plan
+    unfolding patchSound
+    no-row h = simp (fits, sym e, ne-eqb (r .number) 0 h)
+
+    pub same-as-row : r .number ≡ 0 → {b : Bool} → b ≡ samePlan plan (r .plan) → b ≡ patchSound operators p row plan
+    unfolding patchSound
+    same-as-row h s = simp (fits, sym e, eq-eqb (r .number) 0 h, s)
+
+-- ---- a state
+
+module _ (v : Voice) where
+  pub no-count : counted (v .operators) ≡ false → false ≡ stateFits v
+  unfolding stateFits
+  no-count h = simp h
+
+  module _ (count : counted (v .operators) ≡ true) where
+    pub no-stages : allStages (v .«operator_envelope») ≡ false → false ≡ stateFits v
+    unfolding stateFits
+    no-stages h = simp (count, h)
+
+    module _ (stages : allStages (v .«operator_envelope») ≡ true) where
+      pub no-pitch : 3 < v .«pitch_envelope» .stage → false ≡ stateFits v
+      unfolding stateFits
+      no-pitch h = simp (count, stages, lt-leb (v .«pitch_envelope» .stage) 3 h)
+
+      module _ (pitch : v .«pitch_envelope» .stage ≤ 3) where
+        pub with-patch : v .«has_patch» ≡ true → {b : Bool} → b ≡ patchSound (v .operators) (v .patch) (v .row) (v .plan) → b ≡ stateFits v
+        unfolding stateFits
+        with-patch h e = simp (count, stages, le-leb (v .«pitch_envelope» .stage) 3 pitch, h, e)
+
+        pub without-patch : v .«has_patch» ≡ false → v .dirty ≡ stateFits v
+        unfolding stateFits
+        without-patch h = simp (count, stages, le-leb (v .«pitch_envelope» .stage) 3 pitch, h)
+
+-- ---- what an accepted state has
+
+pub record Sound (operators : ℕ) (p : Patch) (row : List ℕ) (plan : Plan) : Type 0 where
+  pub fits : T (patchFits p)
+  pub accepted : planned operators row .number ≡ 0
+  pub same : plan ≡ planned operators row .plan
+
+pub patch-sound : (operators : ℕ) (p : Patch) (row : List ℕ) (plan : Plan) → T (patchSound operators p row plan) → Sound operators p row plan
+unfolding patchSound
+patch-sound operators p row plan t =
+    let a = patchFits p in
+    let b = eqb (planned operators row .number) 0 in
+    let c = samePlan plan (planned operators row .plan) in
+    let rest = and-r a (b && c) t in
+    record { fits = and-l a (b && c) t; accepted = eqb-true _ _ (is-true b (and-l b c rest)); same = same-plan-equal _ _ (is-true c (and-r b c rest)) }
+  where
+    is-true : (b : Bool) → T b → b ≡ true
+    is-true true t = refl
+    is-true false t = absurd t
+
+pub record Fits (v : Voice) : Type 0 where
+  pub count : T (counted (v .operators))
+  pub stages : T (allStages (v .«operator_envelope»))
+  pub pitch : v .«pitch_envelope» .stage ≤ 3
+  pub patched : T (cond (v .«has_patch») (patchSound (v .operators) (v .patch) (v .row) (v .plan)) (v .dirty))
+
+pub state-fits : (v : Voice) → T (stateFits v) → Fits v
+unfolding stateFits
+state-fits v t =
+    let a = counted (v .operators) in
+    let b = allStages (v .«operator_envelope») in
+    let c = isStage (v .«pitch_envelope» .stage) in
+    let d = cond (v .«has_patch») (patchSound (v .operators) (v .patch) (v .row) (v .plan)) (v .dirty) in
+    let tb = and-r a (b && (c && d)) t in
+    let tc = and-r b (c && d) tb in
+    record {
+      count = and-l a (b && (c && d)) t;
+      stages = and-l b (c && d) tb;
+      pitch = leb→le (v .«pitch_envelope» .stage) 3 (and-l c d tc);
+      patched = and-r c d tc;
+    }

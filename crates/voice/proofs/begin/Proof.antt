@@ -1,0 +1,25 @@
+-- `voice::begin` meets its contract. Assumes nothing.
+use borrow.Author.Needs.{needs}
+use Rattle.voice.proofs.Blocks.{begun-of}
+use Rattle.voice.proofs.begin.Statement.{statement}
+use Rattle.voice.proofs.begin.Tie as tie
+
+timing-for-requires : tie.Need-timing-for-requires
+timing-for-requires c κs = search needs
+
+follow-requires : tie.Need-follow-requires
+follow-requires c κs = search needs
+
+note-frequency-requires : tie.Need-note-frequency-requires
+note-frequency-requires c κs = search needs
+
+strike-requires : tie.Need-strike-requires
+strike-requires c κs = search needs
+
+returns : tie.Need-returns
+returns c = begun-of _ _ _ _ _ (c .before .before .before .before .before .before .before .timing-for .ensures) (c .before .before .before .before .before .follow .ensures) (c .before .before .note-frequency .ensures) (c .before .strike .ensures)
+
+pub begin-spec : {M : Type 1} → statement M
+begin-spec =
+    tie.close
+    (tie.spec timing-for-requires follow-requires note-frequency-requires strike-requires returns)

@@ -1,0 +1,34 @@
+-- `voice::render` meets its contract. Assumes nothing.
+use borrow.Author.Needs.{needs}
+use Rattle.voice.proofs.Blocks.{with-tables}
+use Rattle.voice.proofs.render.Statement.{statement}
+use Rattle.voice.proofs.render.Tie as tie
+
+lut-sine-requires : tie.Need-lut-sine-requires
+lut-sine-requires c κs = search needs
+
+lut-pitch-ratio-high-requires : tie.Need-lut-pitch-ratio-high-requires
+lut-pitch-ratio-high-requires c κs = search needs
+
+lut-pitch-ratio-low-requires : tie.Need-lut-pitch-ratio-low-requires
+lut-pitch-ratio-low-requires c κs = search needs
+
+render-with-requires : tie.Need-render-with-requires
+render-with-requires c κs = search needs
+
+same-length : tie.Need-same-length
+same-length c = search needs
+
+returns : tie.Need-returns
+returns c = with-tables _ _ _ (c .before .before .before .before .before .before .before .before .before .lut-sine .ensures) (c .before .before .before .before .before .before .before .before .lut-pitch-ratio-high .ensures) (c .before .before .before .before .before .before .before .lut-pitch-ratio-low .ensures) (c .before .before .render-with .ensures)
+
+pub render-spec : {M : Type 1} → statement M
+render-spec =
+    tie.close
+    (tie.spec
+    lut-sine-requires
+    lut-pitch-ratio-high-requires
+    lut-pitch-ratio-low-requires
+    render-with-requires
+    same-length
+    returns)

@@ -1,0 +1,57 @@
+-- `voice::render_with` meets its contract. Assumes nothing.
+use borrow.Author.Needs.{needs}
+use mathlib.Core.Path.{sym, subst}
+use lib.Dec.{T}
+use Rattle.voice.proofs.Tests.{refused, accepted}
+use Rattle.voice.proofs.Blocks.{render-9, render-8, render-7, render-blank, render-sound}
+use Rattle.voice.proofs.render_with.Statement.{statement}
+use Rattle.voice.proofs.render_with.Tie as tie
+
+state-fits-requires : tie.Need-state-fits-requires
+state-fits-requires c κs = search needs
+
+returns : tie.Need-returns
+returns c = render-9 _ _ _ _ _ _ (refused (c .before .state-fits .ensures) (c .if1 .taken))
+
+block-fits-requires : tie.Need-block-fits-requires
+block-fits-requires c κs = search needs
+
+returns-2 : tie.Need-returns-2
+returns-2 c = render-8 _ _ _ _ _ _ (accepted (c .before .before .before .state-fits .ensures) (c .before .before .if1 .left)) (refused (c .before .block-fits .ensures) (c .if2 .taken))
+
+parameters-fit-requires : tie.Need-parameters-fit-requires
+parameters-fit-requires c κs = search needs
+
+returns-3 : tie.Need-returns-3
+returns-3 c = render-7 _ _ _ _ _ _ (accepted (c .before .before .before .before .before .state-fits .ensures) (c .before .before .before .before .if1 .left)) (accepted (c .before .before .before .block-fits .ensures) (c .before .before .if2 .left)) (refused (c .before .parameters-fit .ensures) (c .if3 .taken))
+
+setup-requires : tie.Need-setup-requires
+setup-requires c κs = subst T (sym (accepted (c .before .before .before .before .before .before .state-fits .ensures) (c .before .before .before .before .before .if1 .left))) tt
+
+returns-4 : tie.Need-returns-4
+returns-4 c = render-blank _ _ _ _ _ _ (accepted (c .before .before .before .before .before .before .before .state-fits .ensures) (c .before .before .before .before .before .before .if1 .left)) (accepted (c .before .before .before .before .before .block-fits .ensures) (c .before .before .before .before .if2 .left)) (accepted (c .before .before .before .parameters-fit .ensures) (c .before .before .if3 .left)) (c .before .if4 .taken) (c .setup .ensures)
+
+sound-requires : tie.Need-sound-requires
+sound-requires c κs = (subst T (sym (accepted (c .before .before .before .before .before .before .before .state-fits .ensures) (c .before .before .before .before .before .before .if1 .left))) tt, c .before .if4 .left, subst T (sym (accepted (c .before .before .before .before .before .block-fits .ensures) (c .before .before .before .before .if2 .left))) tt)
+
+same-length : tie.Need-same-length
+same-length c = search needs
+
+returns-5 : tie.Need-returns-5
+returns-5 c = render-sound _ _ _ _ _ _ (accepted (c .before .before .before .before .before .before .before .before .before .before .state-fits .ensures) (c .before .before .before .before .before .before .before .before .before .if1 .left)) (accepted (c .before .before .before .before .before .before .before .before .block-fits .ensures) (c .before .before .before .before .before .before .before .if2 .left)) (accepted (c .before .before .before .before .before .before .parameters-fit .ensures) (c .before .before .before .before .before .if3 .left)) (c .before .before .before .before .if4 .left) (c .before .before .sound .ensures)
+
+pub render-with-spec : {M : Type 1} → statement M
+render-with-spec =
+    tie.close
+    (tie.spec
+    state-fits-requires
+    returns
+    block-fits-requires
+    returns-2
+    parameters-fit-requires
+    returns-3
+    setup-requires
+    returns-4
+    sound-requires
+    same-length
+    returns-5)

@@ -1,0 +1,44 @@
+-- `voice::set_patch` meets its contract. Assumes nothing.
+use borrow.Author.Needs.{needs}
+use Rattle.voice.proofs.Tests.{refused, accepted, check-refused, check-accepted}
+use Rattle.voice.proofs.Blocks.{set-patch-9, set-patch-6, set-patch-on}
+use Rattle.voice.proofs.set_patch.Statement.{statement}
+use Rattle.voice.proofs.set_patch.Tie as tie
+
+state-fits-requires : tie.Need-state-fits-requires
+state-fits-requires c κs = search needs
+
+returns : tie.Need-returns
+returns c = set-patch-9 _ _ _ (refused (c .before .state-fits .ensures) (c .if1 .taken))
+
+check-requires : tie.Need-check-requires
+check-requires c κs = search needs
+
+returns-2 : tie.Need-returns-2
+returns-2 c = set-patch-6 _ _ _ (accepted (c .before .before .before .state-fits .ensures) (c .before .before .if1 .left)) (check-refused _ (c .before .check .ensures) (c .if2 .taken))
+
+cast-compile : tie.Need-cast-compile
+cast-compile c = search needs
+
+compile-requires : tie.Need-compile-requires
+compile-requires c κs = search needs
+
+load-requires : tie.Need-load-requires
+load-requires c κs = search needs
+
+returns-3 : tie.Need-returns-3
+returns-3 c =
+    set-patch-on _ _ _ (accepted (c .before .before .before .before .before .before .state-fits .ensures) (c .before .before .before .before .before .if1 .left)) (check-accepted _ (c .before .before .before .before .check .ensures) (c .before .before .before .if2 .left)) (c .before .compile .ensures) (c .load .ensures)
+
+pub set-patch-spec : {M : Type 1} → statement M
+set-patch-spec =
+    tie.close
+    (tie.spec
+    state-fits-requires
+    returns
+    check-requires
+    returns-2
+    cast-compile
+    compile-requires
+    load-requires
+    returns-3)

@@ -1,0 +1,29 @@
+-- `voice::setup` meets its contract. Assumes nothing.
+use borrow.Author.Needs.{needs}
+use borrow.Author.Tests.{not-true, not-false}
+use Rattle.voice.proofs.States.{state-fits}
+use Rattle.voice.proofs.Blocks.{count-at-most-6, operators-of, stored, no-setup, set-up}
+use Rattle.voice.proofs.setup.Statement.{statement}
+use Rattle.voice.proofs.setup.Tie as tie
+
+returns : tie.Need-returns
+returns c = no-setup _ _ _ (not-true _ (c .if1 .taken))
+
+pitch-set-requires : tie.Need-pitch-set-requires
+pitch-set-requires c κs = search needs
+
+setup-operators-requires : tie.Need-setup-operators-requires
+setup-operators-requires c κs =
+    let fits = c .before .before .before .before .before .before .before .before .before .before .before .before .pre in
+    (count-at-most-6 _ (state-fits _ fits .count), operators-of _ (stored _ fits (not-false _ (c .before .before .before .before .before .before .before .before .before .before .if1 .left)) .fits))
+
+with-setup-requires : tie.Need-with-setup-requires
+with-setup-requires c κs = search needs
+
+returns-2 : tie.Need-returns-2
+returns-2 c = set-up _ _ _ (not-false _ (c .before .before .before .before .before .before .before .before .before .before .before .before .if1 .left)) (c .before .before .before .before .before .before .pitch-set .ensures) (c .before .setup-operators .ensures) (c .with-setup .ensures)
+
+pub setup-spec : {M : Type 1} → statement M
+setup-spec =
+    tie.close
+    (tie.spec returns pitch-set-requires setup-operators-requires with-setup-requires returns-2)

@@ -1,0 +1,108 @@
+-- What each entry of a voice answers, refused input and buffers included, in document 01's order. Definitions only.
+use Prim.Native.Nat.{ℕ, _%_}
+use mathlib.Core.Bool.{Bool, true, cond, _&&_}
+use mathlib.Core.List.{List}
+use lib.Dec.{eqb, leb}
+use lib.ListN.{length}
+use lib.Ieee.{Float, le}
+use Rattle.numbers.specs.F32.{decimal, minusDecimal}
+use Rattle.patch.specs.declared.Patch.{Patch}
+use Rattle.patch.specs.Packed.{patchFits}
+use Rattle.algorithms.specs.declared.Plan.{Plan}
+use Rattle.algorithms.specs.declared.Compiled.{Compiled}
+use Rattle.algorithms.specs.Plan.{counted, planned, samePlan}
+use Rattle.algorithms.specs.Table.{compiled}
+use Rattle.envelope.specs.Answers.{isStage}
+use Rattle.voice_levels.specs.Levels.{allStages}
+use Rattle.voice.specs.declared.Voice.{Voice}
+use Rattle.voice.specs.declared.VoiceParameters.{VoiceParameters}
+use Rattle.voice.specs.declared.Prepared.{Prepared}
+use Rattle.voice.specs.declared.Loaded.{Loaded}
+use Rattle.voice.specs.Voice.{freshVoice, noVoice, withPatch, withoutPatch, setUp}
+use Rattle.voice.specs.Block.{Sounded, sounded}
+
+-- ---- what is refused
+
+-- from low to high, ends allowed; no NaN
+abbrev pub between : Float → Float → Float → Bool
+between low high x = le low x && le x high
+
+-- else 5
+unfoldable pub sampleRateFits : Float → Bool
+sampleRateFits rate = between (decimal 8000 0) (decimal 192000 0) rate
+
+-- a stored patch that 6 accepts, a row that does not get 3 or 4, and that row's plan
+unfoldable pub patchSound : ℕ → Patch → List ℕ → Plan → Bool
+patchSound operators p row plan =
+    patchFits p && (eqb (planned operators row .number) 0 && samePlan plan (planned operators row .plan))
+
+-- else 9: operators 4 or 6, no stage above 3, with a patch a sound one, without one dirty
+unfoldable pub stateFits : Voice → Bool
+stateFits v =
+    counted (v .operators)
+    && (allStages (v .«operator_envelope»)
+    && (isStage (v .«pitch_envelope» .stage)
+    && cond (v .«has_patch») (patchSound (v .operators) (v .patch) (v .row) (v .plan)) (v .dirty)))
+
+-- else 8: a multiple of 4, at most 4,096 numbers
+unfoldable pub blockFits : ℕ → Bool
+blockFits size = eqb (size % 4) 0 && leb size 4096
+
+-- else 7
+unfoldable pub parametersFit : VoiceParameters → Bool
+parametersFit p =
+    between (decimal 0 0) (decimal 127 0) (p .note)
+    && between (decimal 0 0) (decimal 1 0) (p .velocity)
+    && between (decimal 0 0) (decimal 1 0) (p .brightness)
+    && between (decimal 0 0) (decimal 1 0) (p .«envelope_control»)
+    && between (minusDecimal 4 0) (decimal 4 0) (p .«pitch_mod»)
+    && between (decimal 0 0) (decimal 1 0) (p .«amp_mod»)
+
+-- ---- the answers
+
+abbrev pub prepared : ℕ → Voice → Prepared
+prepared number v = record { number = number; voice = v }
+
+-- 2, then 5; a refusal hands back a voice of no operators
+unfoldable pub initAnswer : ℕ → Float → Prepared
+initAnswer operators rate =
+    cond (counted operators) (cond (sampleRateFits rate) (prepared 0 (freshVoice operators rate)) (prepared 5 noVoice)) (prepared 2 noVoice)
+
+-- what a compiled row makes of the voice; 3 and 4 name their operator
+unfoldable pub loaded : Voice → Patch → Compiled → Loaded
+loaded v p c = record { number = c .number; at = c .at; voice = cond (eqb (c .number) 0) (withPatch v true p (c .row) (c .plan)) v }
+
+abbrev pub notLoaded : ℕ → Voice → Loaded
+notLoaded number v = record { number = number; at = 0; voice = v }
+
+-- 9, 6, 2, 3, 4
+unfoldable pub setPatchAnswer : Voice → Patch → List ℕ → Loaded
+setPatchAnswer v p table =
+    cond (stateFits v) (cond (patchFits p) (loaded v p (compiled (v .operators) table (p .algorithm))) (notLoaded 6 v)) (notLoaded 9 v)
+
+-- 9 only
+unfoldable pub takePatchAnswer : Voice → Prepared
+takePatchAnswer v = cond (stateFits v) (prepared 0 (withoutPatch v)) (prepared 9 v)
+
+-- the number, the voice and the whole block after it
+pub record Answered : Type 0 where
+  pub number : ℕ
+  pub voice : Voice
+  pub block : List Float
+
+abbrev pub unsounded : ℕ → Voice → List Float → Answered
+unsounded number v block = record { number = number; voice = v; block = block }
+
+abbrev pub sounding : Sounded → Answered
+sounding s = record { number = 0; voice = s .voice; block = s .block }
+
+-- 9, 8, 7; a dirty voice's block is blank: it sets up, touches no buffer and does not record the gate
+unfoldable pub renderAnswer : List Float → List Float → List Float → Voice → VoiceParameters → List Float → Answered
+renderAnswer lut high low v p block =
+    cond (stateFits v)
+    (cond (blockFits (length block))
+    (cond (parametersFit p)
+    (cond (v .dirty) (unsounded 0 (setUp high low v) block) (sounding (sounded lut high low v p block)))
+    (unsounded 7 v block))
+    (unsounded 8 v block))
+    (unsounded 9 v block)

@@ -1,0 +1,109 @@
+-- A sounding block of a voice, after voice.rs's render, with one rounding per written operation, in the Rust's order. Definitions only.
+use Prim.Native.Nat.{ℕ, _/_}
+use mathlib.Core.Bool.{Bool, false, cond, not, _&&_, _||_}
+use mathlib.Core.List.{List, [], _∷_}
+use lib.Dec.{eqb}
+use lib.ListN.{length, getD}
+use lib.Ieee.{Float}
+use Rattle.numbers.specs.F32.{_⊕_}
+use Rattle.dx_units.specs.Units.{normalizedVelocity}
+use Rattle.operator.specs.declared.Operator.{Operator}
+use Rattle.block.specs.declared.Operators.{Operators}
+use Rattle.block.specs.Calls.{noOperator, Ran, ran}
+use Rattle.voice_levels.specs.declared.Timing.{Timing}
+use Rattle.voice_levels.specs.declared.Scene.{Scene}
+use Rattle.voice_levels.specs.declared.Levels.{Levels}
+use Rattle.voice_levels.specs.Levels.{timingFor, followed, noteFrequency, leveledTo}
+use Rattle.voice.specs.declared.Voice.{Voice}
+use Rattle.voice.specs.declared.VoiceParameters.{VoiceParameters}
+use Rattle.voice.specs.declared.Struck.{Struck}
+use Rattle.voice.specs.declared.Begun.{Begun}
+
+-- a note-on: the gate opens
+unfoldable pub noteOn : Voice → VoiceParameters → Bool
+noteOn v p = p .gate && not (v .gate)
+
+-- note and velocity are taken at a note-on, and always in a sustained voice; else the stored ones count
+unfoldable pub struck : Voice → VoiceParameters → Struck
+struck v p =
+    cond (noteOn v p || p .sustain)
+    (record { note = p .note; «normalized_velocity» = normalizedVelocity (p .velocity) })
+    (record { note = v .note; «normalized_velocity» = v .«normalized_velocity» })
+
+-- what all operators have in common in a block of n samples, and the pitch envelope after it
+unfoldable pub begun : List Float → List Float → Voice → VoiceParameters → ℕ → Begun
+begun high low v p n =
+    let t = timingFor (p .sustain) (p .gate) (v .«sample_rate») (p .«envelope_control») n in
+    let pitch = followed t false (t .«envelope_rate») (v .«pitch_envelope») in
+    let s = struck v p in
+    record {
+      scene = record {
+        timing = t;
+        f0 = noteFrequency high low (v .a0) (p .note) (pitch .value ⊕ p .«pitch_mod»);
+        «one_hz» = v .«one_hz»;
+        note = s .note;
+        «normalized_velocity» = s .«normalized_velocity»;
+        brightness = p .brightness;
+        «amp_mod» = p .«amp_mod»;
+      };
+      «pitch_envelope» = pitch .envelope;
+    }
+
+-- an operator whose phase starts anew
+abbrev pub restarted : Operator → Operator
+restarted o = record { phase = 0; amplitude = o .amplitude }
+
+abbrev pub restartedAt : List Operator → ℕ → Operator
+restartedAt os i = restarted (getD os i noOperator)
+
+unfoldable pub allRestarted : List Operator → List Operator
+allRestarted os = restartedAt os 0 ∷ restartedAt os 1 ∷ restartedAt os 2 ∷ restartedAt os 3 ∷ restartedAt os 4 ∷ restartedAt os 5 ∷ []
+
+-- the operators that enter a block: phases start anew at a note-on whose patch asks for it
+unfoldable pub entering : Voice → VoiceParameters → List Operator
+entering v p = cond (noteOn v p && not (eqb (v .patch .«reset_phase») 0)) (allRestarted (v .operator)) (v .operator)
+
+-- the voice after a block
+unfoldable pub after : Voice → VoiceParameters → Begun → Levels → Operators → Voice
+after v p b l os = record {
+  operators = v .operators;
+  «sample_rate» = v .«sample_rate»;
+  «one_hz» = v .«one_hz»;
+  a0 = v .a0;
+  gate = p .gate;
+  operator = os .operator;
+  «operator_envelope» = l .«operator_envelope»;
+  «pitch_envelope» = b .«pitch_envelope»;
+  «normalized_velocity» = b .scene .«normalized_velocity»;
+  note = b .scene .note;
+  ratios = v .ratios;
+  «level_headroom» = v .«level_headroom»;
+  «feedback_state» = os .«feedback_state»;
+  «has_patch» = v .«has_patch»;
+  patch = v .patch;
+  row = v .row;
+  plan = v .plan;
+  dirty = v .dirty;
+}
+
+-- the voice and all four quarters after a sounding block
+pub record Sounded : Type 0 where
+  pub voice : Voice
+  pub block : List Float
+
+module _ (lut high low : List Float) (v : Voice) (p : VoiceParameters) where
+  -- steps and amplitudes in a block of n samples
+  unfoldable pub levelsFor : ℕ → Levels
+  levelsFor n = leveledTo (begun high low v p n .scene) (v .patch .op) (v .ratios) (v .«level_headroom») (v .row) (v .«operator_envelope») (v .operators)
+
+  -- the plan's calls over the block
+  unfoldable pub played : List Float → Ran
+  played block =
+      let l = levelsFor (length block / 4) in
+      ran lut (v .plan) (l .steps) (l .amplitudes) (v .patch .feedback) (record { operator = entering v p; «feedback_state» = v .«feedback_state» }) block
+
+  unfoldable pub sounded : List Float → Sounded
+  sounded block =
+      let n = length block / 4 in
+      let r = played block in
+      record { voice = after v p (begun high low v p n) (levelsFor n) (r .operators); block = r .block }

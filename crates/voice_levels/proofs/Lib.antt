@@ -1,0 +1,3 @@
+-- the laws of the definitions
+pub mod Calls
+pub mod Stages

@@ -1,0 +1,122 @@
+-- The numbers of a sounding block, after voice.rs, with one rounding per written operation, in the Rust's order. Definitions only.
+use Prim.Native.Nat.{ℕ, zero, suc}
+use mathlib.Core.Bool.{Bool, true, cond, _&&_}
+use mathlib.Core.List.{List, [], _∷_}
+use lib.IntN.{pos}
+use lib.ListN.{getD, set, replicate}
+use lib.Ieee.{Float, nan, neg}
+use Rattle.numbers.specs.F32.{_⊕_, _⊖_, _⊗_, decimal, minusDecimal, asFloat}
+use Rattle.numbers.specs.Extremes.{minimum, magnitude}
+use Rattle.units.specs.Ratio.{ratioOf}
+use Rattle.dx_units.specs.Pow.{pow2Fast, stepFor}
+use Rattle.dx_units.specs.Units.{rateScaling, keyboardScaling, ampModSensitivity}
+use Rattle.dx_units.specs.declared.Ratio.{Ratio}
+use Rattle.dx_units.specs.declared.Ratio.the-variants.{Note, Hertz}
+use Rattle.envelope.specs.declared.Envelope.{Envelope}
+use Rattle.envelope.specs.Envelope.{rendered, currentValue}
+use Rattle.envelope.specs.Scrub.{scrubbed}
+use Rattle.envelope.specs.Answers.{isStage}
+use Rattle.patch.specs.declared.Operator.{Operator}
+use Rattle.patch.specs.Form.{operatorAt}
+use Rattle.algorithms.specs.Opcode.{modulating}
+use Rattle.voice_setup.specs.declared.Tuned.{Tuned}
+use Rattle.voice_setup.specs.Setup.{envelopeAt}
+use Rattle.voice_levels.specs.declared.Timing.{Timing}
+use Rattle.voice_levels.specs.declared.Followed.{Followed}
+use Rattle.voice_levels.specs.declared.Scene.{Scene}
+use Rattle.voice_levels.specs.declared.Leveled.{Leveled}
+use Rattle.voice_levels.specs.declared.Levels.{Levels}
+
+-- ---- envelopes
+
+-- how envelopes run in a block of so many samples: the envelope control sets two scales, and the sample that a sustained voice is scrubbed to
+unfoldable pub timingFor : Bool → Bool → Float → Float → ℕ → Timing
+timingFor sustain gate sampleRate control samples = record {
+  sustain = sustain;
+  gate = gate;
+  «envelope_rate» = asFloat samples;
+  «ad_scale» = pow2Fast ((decimal 5 1 ⊖ control) ⊗ decimal 8 0) (pos 1);
+  «release_scale» = pow2Fast (neg (magnitude (control ⊖ decimal 3 1)) ⊗ decimal 8 0) (pos 1);
+  «gate_duration» = decimal 15 1 ⊗ sampleRate;
+  «envelope_sample» = decimal 15 1 ⊗ sampleRate ⊗ control;
+}
+
+-- an envelope's block: sustained, it is scrubbed and stays where it is; else it goes on by a rate
+unfoldable pub followed : Timing → Bool → Float → Envelope → Followed
+followed t reshape rate e =
+    let r = rendered reshape (t .gate) rate (t .«ad_scale») (t .«release_scale») e in
+    cond (t .sustain)
+    (record { envelope = e; value = scrubbed 1 reshape e (t .«envelope_sample») (t .«gate_duration») })
+    (record { envelope = r; value = currentValue reshape r })
+
+-- ---- frequencies
+
+-- the note's frequency in turns a sample, with the pitch modulation in octaves; `high` and `low` are the ratio's tables
+unfoldable pub noteFrequency : List Float → List Float → Float → Float → Float → Float
+noteFrequency high low a0 note pitchMod = a0 ⊗ decimal 25 2 ⊗ ratioOf high low (note ⊖ decimal 9 0 ⊕ pitchMod ⊗ decimal 12 0)
+
+-- an operator's frequency in turns a sample: its ratio to the note's, or to 1 Hz
+unfoldable pub frequencyBy : Float → Float → Ratio → Float
+frequencyBy f0 oneHz (Note r) = r ⊗ f0
+frequencyBy f0 oneHz (Hertz r) = r ⊗ oneHz
+
+abbrev pub frequencyOf : Scene → Tuned → Float
+frequencyOf g t = frequencyBy (g .f0) (g .«one_hz») (t .ratio)
+
+-- ---- levels
+
+-- what brightness adds to a modulator's level
+unfoldable pub brightnessOf : Float → ℕ → Float
+brightnessOf brightness opcode = cond (modulating opcode) ((brightness ⊖ decimal 5 1) ⊗ decimal 32 0) (decimal 0 0)
+
+-- what the keyboard, the velocity and the brightness add to an operator's level: an eighth of their sum, which is held at the headroom
+unfoldable pub scalingOf : Scene → Operator → Float → ℕ → Float
+scalingOf g o headroom opcode =
+    let k = o .«keyboard_scaling» in
+    let keyboard = keyboardScaling (g .note) (k .«left_depth») (k .«right_depth») (k .«left_curve») (k .«right_curve») (k .«break_point») in
+    let velocity = g .«normalized_velocity» ⊗ asFloat (o .«velocity_sensitivity») in
+    decimal 125 3 ⊗ minimum (keyboard ⊕ velocity ⊕ brightnessOf (g .brightness) opcode) headroom
+
+-- the amplitude of a level, with the amplitude modulation by an operator's sensitivity
+unfoldable pub amplitudeOf : Float → ℕ → Float → Float
+amplitudeOf ampMod sensitivity level =
+    let logLevelMod = ampModSensitivity sensitivity ⊗ ampMod ⊖ decimal 1 0 in
+    let levelMod = decimal 1 0 ⊖ pow2Fast (decimal 64 1 ⊗ logLevelMod) (pos 2) in
+    pow2Fast (minusDecimal 14 0 ⊕ level ⊗ levelMod) (pos 2)
+
+-- ---- operators
+
+-- what a block makes of one operator
+unfoldable pub leveled : Scene → Operator → Tuned → Float → ℕ → Envelope → Leveled
+leveled g o tuned headroom opcode e =
+    let rate = g .timing .«envelope_rate» ⊗ rateScaling (g .note) (o .«rate_scaling») in
+    let f = followed (g .timing) true rate e in
+    record {
+      envelope = f .envelope;
+      step = stepFor (frequencyOf g tuned);
+      amplitude = amplitudeOf (g .«amp_mod») (o .«amp_mod_sensitivity») (f .value ⊕ scalingOf g o headroom opcode);
+    }
+
+-- operator i put in its place
+unfoldable pub putAt : ℕ → Leveled → Levels → Levels
+putAt i one l = record {
+  «operator_envelope» = set (l .«operator_envelope») i (one .envelope);
+  steps = set (l .steps) i (one .step);
+  amplitudes = set (l .amplitudes) i (one .amplitude);
+}
+
+-- what stands past the last ratio: nothing asks for it
+abbrev pub noTuned : Tuned
+noTuned = record { ratio = Note nan }
+
+-- the first operators, in order; the others keep their envelopes, and their steps and amplitudes are 0
+module _ (g : Scene) (ops : List Operator) (ratios : List Tuned) (headrooms : List Float) (row : List ℕ) (es : List Envelope) where
+  unfoldable pub leveledTo : ℕ → Levels
+  leveledTo zero = record { «operator_envelope» = es; steps = replicate 6 0; amplitudes = replicate 6 (decimal 0 0) }
+  leveledTo (suc k) =
+      putAt k (leveled g (operatorAt ops k) (getD ratios k noTuned) (getD headrooms k nan) (getD row k 0) (envelopeAt es k)) (leveledTo k)
+
+-- no envelope has a stage above 3
+unfoldable pub allStages : List Envelope → Bool
+allStages [] = true
+allStages (e ∷ es) = isStage (e .stage) && allStages es

@@ -1,0 +1,219 @@
+// The numbers of a sounding block, after voice.rs's render: how fast the envelopes run, and for each operator its envelope, its
+// step and its amplitude. Helpers of the voice, which has checked its state and the patch.
+ghost use mathlib.Core.Path.{_≡_};
+ghost use Prim.Native.Nat.{_≤_};
+ghost use lib.Dec.{T};
+ghost use Rattle.patch.specs.Packed.{operatorFits, operatorsFit};
+ghost use Rattle.voice_levels.specs.Levels.{timingFor, followed, noteFrequency, frequencyOf, scalingOf, amplitudeOf};
+ghost use Rattle.voice_levels.specs.Levels.{brightnessOf, leveled, leveledTo, allStages};
+use dx_units::Ratio;
+use envelope::Envelope;
+use voice_setup::Tuned;
+
+// How the envelopes run in a block: scrubbed to a sample, or on by a rate.
+pub struct Timing {
+    pub sustain: bool,
+    pub gate: bool,
+    pub envelope_rate: f32,
+    pub ad_scale: f32,
+    pub release_scale: f32,
+    pub gate_duration: f32,
+    pub envelope_sample: f32,
+}
+
+// An envelope after a block, and its value there.
+pub struct Followed {
+    pub envelope: Envelope,
+    pub value: f32,
+}
+
+// What all operators of a block have in common.
+pub struct Scene {
+    pub timing: Timing,
+    pub f0: f32,
+    pub one_hz: f32,
+    pub note: f32,
+    pub normalized_velocity: f32,
+    pub brightness: f32,
+    pub amp_mod: f32,
+}
+
+// What a block makes of one operator.
+pub struct Leveled {
+    pub envelope: Envelope,
+    pub step: u32,
+    pub amplitude: f32,
+}
+
+// And of all.
+pub struct Levels {
+    pub operator_envelope: [Envelope; 6],
+    pub steps: [u32; 6],
+    pub amplitudes: [f32; 6],
+}
+
+pub fn timing_for(
+    sustain: bool,
+    gate: bool,
+    sample_rate: f32,
+    envelope_control: f32,
+    samples: u32,
+) -> Timing
+    ensures { λ r. ⌜ r ≡ timingFor sustain gate «sample_rate» «envelope_control» samples ⌝ }
+{
+    let envelope_rate = numbers::u32_as_f32(samples);
+    let ad_scale = dx_units::pow_2_fast((0.5 - envelope_control) * 8.0, 1);
+    let release = -numbers::f32_abs(envelope_control - 0.3) * 8.0;
+    let release_scale = dx_units::pow_2_fast(release, 1);
+    let gate_duration = 1.5 * sample_rate;
+    let envelope_sample = gate_duration * envelope_control;
+    Timing {
+        sustain,
+        gate,
+        envelope_rate,
+        ad_scale,
+        release_scale,
+        gate_duration,
+        envelope_sample,
+    }
+}
+
+// An envelope's block. A scrubbed one stays where it is.
+pub fn follow(t: Timing, reshape: bool, rate: f32, e: Envelope) -> Followed
+    requires { ⌜ e .stage ≤ 3 ⌝ }
+    ensures { λ r. ⌜ r ≡ followed t reshape rate e ⌝ }
+{
+    if t.sustain {
+        let value = envelope::inner::render_at_sample(
+            e,
+            reshape,
+            t.envelope_sample,
+            t.gate_duration,
+        );
+        return Followed { envelope: e, value };
+    }
+    let envelope = envelope::inner::render(e, reshape, t.gate, rate, t.ad_scale, t.release_scale);
+    let value = envelope::inner::current_value(envelope, reshape);
+    Followed { envelope, value }
+}
+
+// The note's frequency in turns a sample, with the pitch modulation in octaves.
+pub fn note_frequency(
+    high: &[f32; 256],
+    low: &[f32; 256],
+    a0: f32,
+    note: f32,
+    pitch_mod: f32,
+) -> f32
+    ensures { λ r. ⌜ r ≡ noteFrequency (now (high .entry)) (now (low .entry)) a0 note «pitch_mod» ⌝ }
+{
+    let semitones = note - 9.0 + pitch_mod * 12.0;
+    a0 * 0.25 * units::semitones_to_ratio_lent(high, low, semitones)
+}
+
+// What brightness adds to a modulator's level.
+fn brightness_of(brightness: f32, opcode: u8) -> f32
+    ensures { λ r. ⌜ r ≡ brightnessOf brightness opcode ⌝ }
+{
+    if algorithms::is_modulator(opcode) {
+        return (brightness - 0.5) * 32.0;
+    }
+    0.0
+}
+
+// An operator's frequency in turns a sample.
+fn frequency(g: Scene, tuned: Tuned) -> f32
+    ensures { λ r. ⌜ r ≡ frequencyOf g tuned ⌝ }
+{
+    let ratio = tuned.ratio;
+    match ratio {
+        Ratio::Note(r) => r * g.f0,
+        Ratio::Hertz(r) => r * g.one_hz,
+    }
+}
+
+// What the keyboard, the velocity and the brightness add to a level: at most the headroom.
+fn scaling(g: Scene, op: patch::Operator, level_headroom: f32, opcode: u8) -> f32
+    ensures { λ r. ⌜ r ≡ scalingOf g op «level_headroom» opcode ⌝ }
+{
+    let k = op.keyboard_scaling;
+    let kb_scaling = dx_units::inner::keyboard_scaling(
+        g.note,
+        k.left_depth,
+        k.right_depth,
+        k.left_curve,
+        k.right_curve,
+        k.break_point,
+    );
+    let velocity_scaling = g.normalized_velocity * op.velocity_sensitivity as f32;
+    let brightness = brightness_of(g.brightness, opcode);
+    0.125 * numbers::f32_min(kb_scaling + velocity_scaling + brightness, level_headroom)
+}
+
+// The amplitude of a level, with the amplitude modulation.
+fn amplitude(amp_mod: f32, sensitivity: u8, level: f32) -> f32
+    requires { ⌜ sensitivity ≤ 3 ⌝ }
+    ensures { λ r. ⌜ r ≡ amplitudeOf «amp_mod» sensitivity level ⌝ }
+{
+    let log_level_mod = dx_units::inner::amp_mod_sensitivity(sensitivity) * amp_mod - 1.0;
+    let level_mod = 1.0 - dx_units::pow_2_fast(6.4 * log_level_mod, 2);
+    dx_units::pow_2_fast(-14.0 + level * level_mod, 2)
+}
+
+fn level_operator(
+    g: Scene,
+    op: patch::Operator,
+    tuned: Tuned,
+    level_headroom: f32,
+    opcode: u8,
+    e: Envelope,
+) -> Leveled
+    requires { ⌜ (e .stage ≤ 3) × T (operatorFits op) ⌝ }
+    ensures { λ r. ⌜ r ≡ leveled g op tuned «level_headroom» opcode e ⌝ }
+{
+    let step = dx_units::frequency_step(frequency(g, tuned));
+    let t = g.timing;
+    let rate = t.envelope_rate * dx_units::inner::rate_scaling(g.note, op.rate_scaling);
+    let f = follow(t, true, rate, e);
+    let level = f.value + scaling(g, op, level_headroom, opcode);
+    let amplitude = amplitude(g.amp_mod, op.amp_mod_sensitivity, level);
+    let envelope = f.envelope;
+    Leveled {
+        envelope,
+        step,
+        amplitude,
+    }
+}
+
+// The first `operators` of six; the others keep their envelopes, and their steps and amplitudes are 0.
+pub fn level_operators(
+    g: Scene,
+    operators: usize,
+    op: [patch::Operator; 6],
+    ratios: [Tuned; 6],
+    level_headroom: [f32; 6],
+    row: [u8; 6],
+    operator_envelope: [Envelope; 6],
+) -> Levels
+    requires { ⌜ (operators ≤ 6) × T (operatorsFit op) × T (allStages «operator_envelope») ⌝ }
+    ensures { λ r. ⌜ r ≡ leveledTo g op ratios «level_headroom» row «operator_envelope» operators ⌝ }
+{
+    let mut l = Levels {
+        operator_envelope,
+        steps: [0u32; 6],
+        amplitudes: [0.0f32; 6],
+    };
+    let mut i = 0usize;
+    while i < operators {
+        let o = op[i];
+        let tuned = ratios[i];
+        let e = operator_envelope[i];
+        let one = level_operator(g, o, tuned, level_headroom[i], row[i], e);
+        let envelope = one.envelope;
+        l.operator_envelope[i] = envelope;
+        l.steps[i] = one.step;
+        l.amplitudes[i] = one.amplitude;
+        i = i + 1;
+    }
+    l
+}
