@@ -40,8 +40,10 @@ unsafe extern "C" {
         out: *mut f32,
         len: usize,
     ) -> u32;
-    fn bench_unpack(bytes: *const u8, len: usize) -> u8;
-    fn bench_pack(bytes: *const u8, len: usize) -> u8;
+    fn bench_unpack(bytes: *const u8, len: usize, times: usize) -> u8;
+    fn bench_pack(bytes: *const u8, len: usize, times: usize) -> u8;
+    fn bench_check(bytes: *const u8, len: usize, times: usize) -> u8;
+    fn bench_again(bytes: *const u8, len: usize, out: *mut [u8; 128]) -> u8;
     fn bench_validate(dump: *const u8, len: usize) -> u8;
     fn bench_compile(a: u8, b: u8, c: u8, d: u8, e: u8, f: u8) -> u8;
 }
@@ -203,31 +205,42 @@ fn bytes(count: usize) -> Vec<u8> {
     (0..count).map(next).collect()
 }
 
+/// Eight patches unpacked in turn by the Rust, `times` in all, as the proved side does.
+fn unpack(data: &[u8], times: usize) -> u8 {
+    let mut patches: [Patch; 8] = std::array::from_fn(|_| Patch::new());
+    for i in 0..times {
+        patches[i % 8] = Patch::new();
+        patches[i % 8].unpack(&data[128 * (i % 8)..][..128]);
+    }
+    mixed_patch(&black_box(&patches)[times % 8])
+}
+
+/// Bytes that were unpacked and packed again: the same from then on.
+fn clean(data: &[u8]) -> Vec<u8> {
+    let again = |chunk: &[u8]| {
+        let mut out = [0; 128];
+        assert_eq!(unsafe { bench_again(chunk.as_ptr(), 128, &mut out) }, 0, "an unpacked patch is refused");
+        out
+    };
+    let packed: Vec<u8> = data.chunks(128).flat_map(again).collect();
+    assert!(packed.chunks(128).all(|chunk| again(chunk) == *chunk), "clean bytes are not packed again");
+    packed
+}
+
 fn patches() {
-    let data = bytes(128 * 64);
-    let each = || data.chunks(128);
-    let (mut ours, mut rust, mut both) = (0, 0, 0);
-    let unpack = |chunk: &[u8]| unsafe { bench_unpack(chunk.as_ptr(), chunk.len()) };
-    race(
-        "unpacking: ns a patch",
-        64.0,
-        || ours = each().fold(0u8, |all, chunk| all.rotate_left(1) ^ unpack(black_box(chunk))),
-        || {
-            rust = each().fold(0u8, |all, chunk| {
-                let mut patch = Patch::new();
-                patch.unpack(black_box(chunk));
-                all.rotate_left(1) ^ mixed_patch(&patch)
-            })
-        },
-    );
+    const TIMES: usize = 8000;
+    let data = clean(&bytes(1024));
+    let (mut ours, mut rust) = (0, 0);
+    let unpacking = || unsafe { bench_unpack(black_box(&data).as_ptr(), data.len(), TIMES) };
+    let packing = || unsafe { bench_pack(black_box(&data).as_ptr(), data.len(), TIMES) };
+    let checking = || unsafe { bench_check(black_box(&data).as_ptr(), data.len(), TIMES) };
+    let by_the_rust = || unpack(black_box(&data), TIMES);
+    race("unpacking: ns a patch", TIMES as f64, || ours = unpacking(), || rust = by_the_rust());
     assert_eq!(ours, rust, "the two sides differ");
-    race(
-        "unpacking and packing again, beside our unpacking alone: ns a patch",
-        64.0,
-        || both = each().fold(0u8, |all, chunk| all ^ unsafe { bench_pack(black_box(chunk).as_ptr(), 128) }),
-        || ours = each().fold(0u8, |all, chunk| all.rotate_left(1) ^ unpack(black_box(chunk))),
-    );
-    black_box(both);
+    race("packing, beside the Rust's unpacking: ns a patch", TIMES as f64, || ours = packing(), || rust = by_the_rust());
+    assert_eq!(ours, data[..128].iter().fold(0, |all, b| all ^ b), "the packed bytes differ");
+    race("checking, beside the Rust's unpacking: ns a patch", TIMES as f64, || ours = checking(), || rust = by_the_rust());
+    assert_eq!(ours, 0, "an unpacked patch is refused");
 }
 
 fn bank() {

@@ -11,6 +11,8 @@ use patch::KeyboardScaling;
 use patch::ModulationParameters;
 use patch::Operator;
 use patch::Patch;
+ghost use Prim.Native.Nat.{_≤_};
+ghost use lib.ListN.{length};
 
 // Blocks of the sine, one after the other in the same place: each starts one further on than the last, the
 // phase moves by a step and the modulation by another. The table is made once and lent.
@@ -217,32 +219,100 @@ fn mixed_patch(p: Patch) -> u8 {
         ^ p.transpose
 }
 
-fn mixed_bytes(s: &[u8]) -> u8 {
+fn mixed_bytes(s: &[u8; 128]) -> u8 {
     let mut all = 0u8;
     let mut i = 0;
-    while i < s.len() {
+    while i < 128 {
         all = all ^ s[i];
         i += 1;
     }
     all
 }
 
-// One patch unpacked.
-#[no_mangle]
-pub extern "C" fn bench_unpack(bytes: &[u8]) -> u8 {
-    let read = patch::unpack(Patch::new(), bytes);
-    let p = read.patch;
-    mixed_patch(p)
+// Eight patches unpacked in turn, `times` in all.
+fn unpacked_in_turn(bytes: &[u8], times: usize) -> [Patch; 8]
+    requires { ⌜ 1024 ≤ length (now bytes) ⌝ }
+{
+    let z = Patch::new();
+    let mut patches = [z, z, z, z, z, z, z, z];
+    let mut i = 0usize;
+    while i < times {
+        let k = i % 8;
+        let read = patch::unpack(Patch::new(), &bytes[128 * k..128 * k + 128]);
+        let p = read.patch;
+        patches[k] = p;
+        i += 1;
+    }
+    patches
 }
 
-// One patch unpacked and packed again.
+// Eight patches packed in turn, `times` in all.
+fn packed_in_turn(patches: [Patch; 8], times: usize) -> [[u8; 128]; 8] {
+    let z = [0u8; 128];
+    let mut out = [z, z, z, z, z, z, z, z];
+    let mut i = 0usize;
+    while i < times {
+        let k = i % 8;
+        let done = packer::pack(patches[k]);
+        let packed = done.bytes;
+        out[k] = packed;
+        i += 1;
+    }
+    out
+}
+
+// Eight patches checked in turn, `times` in all; their numbers.
+fn checked_in_turn(patches: [Patch; 8], times: usize) -> u8 {
+    let mut all = 0u8;
+    let mut i = 0usize;
+    while i < times {
+        all = all ^ limits::check(patches[i % 8]);
+        i += 1;
+    }
+    all
+}
+
+// Patches unpacked; every field of one.
 #[no_mangle]
-pub extern "C" fn bench_pack(bytes: &[u8]) -> u8 {
+pub extern "C" fn bench_unpack(bytes: &[u8], times: usize) -> u8 {
+    if bytes.len() < 1024 {
+        return 0;
+    }
+    let patches = unpacked_in_turn(bytes, times);
+    mixed_patch(patches[times % 8])
+}
+
+// Patches packed; every byte of one.
+#[no_mangle]
+pub extern "C" fn bench_pack(bytes: &[u8], times: usize) -> u8 {
+    if bytes.len() < 1024 {
+        return 0;
+    }
+    let patches = unpacked_in_turn(bytes, 8);
+    let all = packed_in_turn(patches, times);
+    let one = all[times % 8];
+    mixed_bytes(&one)
+}
+
+// Patches checked.
+#[no_mangle]
+pub extern "C" fn bench_check(bytes: &[u8], times: usize) -> u8 {
+    if bytes.len() < 1024 {
+        return 0;
+    }
+    let patches = unpacked_in_turn(bytes, 8);
+    checked_in_turn(patches, times)
+}
+
+// A patch unpacked and packed again; the number.
+#[no_mangle]
+pub extern "C" fn bench_again(bytes: &[u8], out: &mut [u8; 128]) -> u8 {
     let read = patch::unpack(Patch::new(), bytes);
     let p = read.patch;
-    let packed = patch::pack(p);
-    let out = packed.bytes;
-    mixed_bytes(&out)
+    let done = packer::pack(p);
+    let packed = done.bytes;
+    *out = packed;
+    done.number
 }
 
 // A bank's number.

@@ -92,7 +92,7 @@ pub fn set(lfo: Lfo, modulations: patch::ModulationParameters) -> Prepared
     if !state_fits(lfo) {
         return Prepared { number: 9, lfo };
     }
-    if !patch::modulations_fit(modulations, 7) {
+    if !limits::modulations_fit(modulations, 7) {
         return Prepared { number: 6, lfo };
     }
     Prepared {

@@ -1,6 +1,4 @@
 pub mod Arrays
-pub mod Bytes
+pub mod Each
 pub mod Positions
-pub mod RoundTrip
-pub mod Tables
-pub mod Within
+pub mod Reading

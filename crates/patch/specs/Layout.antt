@@ -111,6 +111,9 @@ fieldOf Transpose = row 117 0 7 48
 fieldOf (Letter i) = row (118 + i) 0 7 127
 
 -- LAYOUT ORDER
+unfoldable pub stages : List ℕ
+stages = 0 ∷ 1 ∷ 2 ∷ 3 ∷ []
+
 unfoldable pub envelopeNames : List EnvelopeName
 envelopeNames = Rate 0 ∷ Rate 1 ∷ Rate 2 ∷ Rate 3 ∷ Level 0 ∷ Level 1 ∷ Level 2 ∷ Level 3 ∷ []
 

@@ -43,7 +43,7 @@ fn put_part(out: &mut [u8], number: u8, part: &[u8]) -> usize {
 
 fn modulations_fit(s: &[u8], out: &mut [u8]) -> usize {
     let b = wire::eight(s, 1);
-    wire::put_bool(out, 5, patch::modulations_fit(modulations(b), b[7]))
+    wire::put_bool(out, 5, limits::modulations_fit(modulations(b), b[7]))
 }
 
 // The same for an entry with a state.
@@ -77,7 +77,7 @@ fn unpack(registers: Registers, s: &[u8], out: &mut [u8]) -> After {
 }
 
 fn pack(registers: Registers, out: &mut [u8]) -> After {
-    let done = patch::pack(registers.patch);
+    let done = packer::pack(registers.patch);
     let bytes = done.bytes;
     let a = wire::put_byte(out, 5, done.number);
     let end = wire::put_bytes(out, a, &bytes);
@@ -85,7 +85,7 @@ fn pack(registers: Registers, out: &mut [u8]) -> After {
 }
 
 fn check(registers: Registers, out: &mut [u8]) -> After {
-    let end = wire::put_byte(out, 5, patch::check(registers.patch));
+    let end = wire::put_byte(out, 5, limits::check(registers.patch));
     After { end, registers }
 }
 

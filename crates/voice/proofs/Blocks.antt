@@ -14,8 +14,8 @@ use Rattle.sine.specs.Table.{lutSine}
 use Rattle.units.specs.Tables.{lutPitchRatioHigh, lutPitchRatioLow}
 use Rattle.dx_units.specs.Units.{normalizedVelocity}
 use Rattle.patch.specs.declared.Patch.{Patch}
-use Rattle.patch.specs.Packed.{patchFits, operatorsFit, envelopeFits, modulationsFit, nameFits}
-use Rattle.patch.proofs.Within.{patch-fits}
+use Rattle.patch.specs.Packed.{patchFits, operatorsFit, stagesFit, modulationsFit, nameFits}
+use Rattle.limits.proofs.Within.{patch-fits}
 use Rattle.algorithms.specs.declared.Compiled.{Compiled}
 use Rattle.algorithms.specs.declared.Plan.{Plan}
 use Rattle.algorithms.specs.Plan.{counted, noPlan}
@@ -48,7 +48,8 @@ use Rattle.voice.proofs.States.{Sound, Fits, patch-sound, state-fits}
 pub operators-of : (p : Patch) → T (patchFits p) → T (operatorsFit (p .op))
 operators-of p t =
     let a = operatorsFit (p .op) in
-    let b = envelopeFits (p .«pitch_envelope») in
+    let b = stagesFit (p .«pitch_envelope» .rate) in
+    let b' = stagesFit (p .«pitch_envelope» .level) in
     let c = leb (p .algorithm) 31 in
     let d = leb (p .feedback) 7 in
     let e = leb (p .«reset_phase») 1 in
@@ -56,7 +57,7 @@ operators-of p t =
     let g = leb (p .transpose) 48 in
     let h = nameFits (p .name) in
     let i = eqb (p .«active_operators») 63 in
-    and-l a b (and-l (a && b) c (and-l (a && b && c) d (and-l (a && b && c && d) e (and-l (a && b && c && d && e) f (and-l (a && b && c && d && e && f) g (and-l (a && b && c && d && e && f && g) h (and-l (a && b && c && d && e && f && g && h) i (subst T (patch-fits p) t))))))))
+    and-l a b (and-l (a && b) b' (and-l (a && b && b') c (and-l (a && b && b' && c) d (and-l (a && b && b' && c && d) e (and-l (a && b && b' && c && d && e) f (and-l (a && b && b' && c && d && e && f) g (and-l (a && b && b' && c && d && e && f && g) h (and-l (a && b && b' && c && d && e && f && g && h) i (subst T (patch-fits p) t)))))))))
 
 pub count-at-most-6 : (n : ℕ) → T (counted n) → n ≤ 6
 unfolding counted

@@ -152,7 +152,7 @@ fn stages_fit(e: [Envelope; 6]) -> bool
 fn patch_sound(operators: usize, patch: Patch, row: [u8; 6], plan: Plan) -> bool
     ensures { λ r. ⌜ r ≡ patchSound operators patch row plan ⌝ }
 {
-    if patch::check(patch) != 0 {
+    if limits::check(patch) != 0 {
         return false;
     }
     let planned = algorithms::compile_row(operators, row);
@@ -275,7 +275,7 @@ pub fn set_patch(v: Voice, patch: Patch, table: &[u8]) -> Loaded
             voice: v,
         };
     }
-    if patch::check(patch) != 0 {
+    if limits::check(patch) != 0 {
         return Loaded {
             number: 6,
             at: 0,

@@ -9,8 +9,8 @@ use Rattle.patch.proofs.unpack_whole.Tie as tie
 unpack-operators-requires : tie.Need-unpack-operators-requires
 unpack-operators-requires c κs = search needs
 
-unpack-envelope-requires : tie.Need-unpack-envelope-requires
-unpack-envelope-requires c κs = search needs
+unpack-stages-requires : tie.Need-unpack-stages-requires
+unpack-stages-requires c κs = search needs
 
 unpack-modulations-requires : tie.Need-unpack-modulations-requires
 unpack-modulations-requires c κs = search needs
@@ -51,7 +51,7 @@ unpack-whole-spec =
     tie.close
     (tie.spec
     unpack-operators-requires
-    unpack-envelope-requires
+    unpack-stages-requires
     unpack-modulations-requires
     unpack-name-requires
     shared-slice-read-field

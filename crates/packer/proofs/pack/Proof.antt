@@ -1,0 +1,23 @@
+-- `packer::pack` meets its contract. Whether the patch fits decides. Assumes nothing.
+use mathlib.Core.Path.{sym, _∙_}
+use borrow.Author.Needs.{needs}
+use Rattle.packer.specs.Packing.{packOf}
+use Rattle.packer.proofs.pack.Statement.{statement}
+use Rattle.packer.proofs.pack.Tie as tie
+
+patch-fits-requires : tie.Need-patch-fits-requires
+patch-fits-requires c κs = search needs
+
+pack-whole-requires : tie.Need-pack-whole-requires
+pack-whole-requires c κs = search needs
+
+returns : tie.Need-returns
+unfolding packOf
+returns c = rw (sym (c .before .before .patch-fits .ensures) ∙ c .if1 .taken, c .before .pack-whole .ensures)
+
+returns-2 : tie.Need-returns-2
+unfolding packOf
+returns-2 c = rw (sym (c .before .before .patch-fits .ensures) ∙ c .if1 .left)
+
+pub pack-spec : {M : Type 1} → statement M
+pack-spec = tie.close (tie.spec patch-fits-requires pack-whole-requires returns returns-2)
