@@ -3,6 +3,7 @@
 use plaits::fm::algorithms::{Algorithms, OPCODES_6_32};
 use plaits::fm::operator::{self as fm, RenderFn, render_operators};
 use plaits::fm::patch::{Envelope, Operator, Patch};
+use plaits::fm::voice::{Voice, VoiceParameters};
 use plaits::oscillator::sine_oscillator::sine_pm;
 use std::cell::RefCell;
 use std::hint::black_box;
@@ -44,6 +45,7 @@ unsafe extern "C" {
     fn bench_pack(bytes: *const u8, len: usize, times: usize) -> u8;
     fn bench_check(bytes: *const u8, len: usize, times: usize) -> u8;
     fn bench_again(bytes: *const u8, len: usize, out: *mut [u8; 128]) -> u8;
+    fn bench_voice(bytes: *const u8, len: usize, note: f32, blocks: u32, block: *mut f32, size: usize) -> u32;
     fn bench_validate(dump: *const u8, len: usize) -> u8;
     fn bench_compile(a: u8, b: u8, c: u8, d: u8, e: u8, f: u8) -> u8;
 }
@@ -282,6 +284,98 @@ fn rows() {
     black_box(all);
 }
 
+/// The Rust's blank block and so many that sound, from a fresh voice; the phase of its last operator.
+fn rust_voice(algorithms: &Algorithms<6, 32>, data: &[u8], note: f32, blocks: u32, block: &mut [f32]) -> u32 {
+    let mut patch = Patch::new();
+    patch.unpack(data);
+    let mut voice = Voice::<6, 32>::new();
+    voice.init(algorithms, 48000.0);
+    voice.set_patch(Some(patch));
+    let parameters = VoiceParameters {
+        gate: true,
+        note,
+        velocity: 0.8,
+        brightness: 0.5,
+        envelope_control: 0.5,
+        ..VoiceParameters::new()
+    };
+    let samples = block.len() / 4;
+    let mut quarters = block.chunks_mut(samples);
+    let buffers: [RefCell<&mut [f32]>; 4] = std::array::from_fn(|_| RefCell::new(quarters.next().unwrap()));
+    for _ in 0..=blocks {
+        voice.render(&parameters, &buffers);
+    }
+    voice.operator[5].phase
+}
+
+/// A packed patch that sounds: every operator at its level, this algorithm, feedback 7.
+fn sounding(algorithm: u8) -> Vec<u8> {
+    let mut data = Vec::new();
+    for k in 0..6u8 {
+        data.extend([80, 50, 40, 60, 99, 90, 80, 0, 39, 10, 20, 4, 3 << 3 | 2, 2 << 2, 90 - k, (k % 3 + 1) << 1, k]);
+    }
+    data.extend([99, 99, 99, 99, 50, 50, 50, 50, algorithm, 7, 35, 0, 0, 0, 0, 24]);
+    data.extend(b"BENCHMARK ");
+    data
+}
+
+fn voices(samples: usize) {
+    let mut algorithms = Algorithms::<6, 32>::new();
+    algorithms.init();
+    let blocks = (20_000 / samples) as u32;
+    for number in [1u8, 4, 5, 19, 32] {
+        let data = sounding(number - 1);
+        let (mut a, mut b) = (vec![0f32; 4 * samples], vec![0f32; 4 * samples]);
+        let (mut ours, mut rust) = (0, 0);
+        race(
+            &format!("a voice, algorithm {number}, blocks of {samples}: ns a block"),
+            blocks as f64,
+            || {
+                a.fill(0.0);
+                ours = unsafe { bench_voice(data.as_ptr(), 128, black_box(60.0), blocks, a.as_mut_ptr(), a.len()) };
+            },
+            || {
+                b.fill(0.0);
+                rust = rust_voice(&algorithms, &data, black_box(60.0), blocks, &mut b);
+            },
+        );
+        assert!(ours == rust && same(&a, &b), "the two sides differ");
+    }
+}
+
+/// Many patches: for each of three notes a fresh voice, its blank block and eight of 256 samples.
+fn many_patches() {
+    let mut algorithms = Algorithms::<6, 32>::new();
+    algorithms.init();
+    let data = bytes(128 * 40_000);
+    let (mut a, mut b) = (vec![0f32; 1024], vec![0f32; 1024]);
+    let (mut least_ours, mut least_rust) = (f64::MAX, f64::MAX);
+    for _ in 0..2 {
+        let (mut ours, mut rust) = (0.0, 0.0);
+        for (k, chunk) in data.chunks(128).enumerate() {
+            for note in [36.0, 60.0, 84.0] {
+                a.fill(0.0);
+                b.fill(0.0);
+                let start = Instant::now();
+                let x = unsafe { bench_voice(chunk.as_ptr(), 128, note, 8, a.as_mut_ptr(), a.len()) };
+                ours += start.elapsed().as_secs_f64();
+                let start = Instant::now();
+                let y = rust_voice(&algorithms, chunk, note, 8, &mut b);
+                rust += start.elapsed().as_secs_f64();
+                assert!(x == y && same(&a, &b), "the two sides differ at patch {k}");
+            }
+        }
+        (least_ours, least_rust) = (f64::min(least_ours, ours), f64::min(least_rust, rust));
+    }
+    let per = |seconds: f64| seconds * 1e6 / 40_000.0;
+    println!(
+        "| 40,000 patches, three notes, eight blocks of 256: us a patch | {:.1} | {:.1} | {:.2} |",
+        per(least_ours),
+        per(least_rust),
+        least_ours / least_rust
+    );
+}
+
 fn main() {
     println!("| work | ours | the Rust | ratio |\n|---|---|---|---|");
     for samples in [24, 64, 256, 1024] {
@@ -293,4 +387,8 @@ fn main() {
     patches();
     bank();
     rows();
+    for samples in [24, 64, 256, 1024] {
+        voices(samples);
+    }
+    many_patches();
 }

@@ -11,8 +11,8 @@ use patch::KeyboardScaling;
 use patch::ModulationParameters;
 use patch::Operator;
 use patch::Patch;
-ghost use Prim.Native.Nat.{_≤_};
-ghost use lib.ListN.{length};
+use voice::Voice;
+use voice::VoiceParameters;
 
 // Blocks of the sine, one after the other in the same place: each starts one further on than the last, the
 // phase moves by a step and the modulation by another. The table is made once and lent.
@@ -339,4 +339,55 @@ pub extern "C" fn bench_compile(a: u8, b: u8, c: u8, d: u8, e: u8, f: u8) -> u8 
 
 fn mixed_call(c: Call) -> u8 {
     c.first ^ c.n ^ c.input ^ c.output ^ (c.add as u8)
+}
+
+// Blocks of a voice, one after the other in the same place; the phase of its last operator.
+fn sounded(
+    lut: &[f32; 641],
+    high: &[f32; 256],
+    low: &[f32; 256],
+    first: Voice,
+    p: VoiceParameters,
+    blocks: u32,
+    block: &mut [f32],
+) -> u32 {
+    let mut v = first;
+    let mut k = 0u32;
+    while k < blocks {
+        let r = voice::render_with(lut, high, low, v, p, block);
+        let w = r.voice;
+        v = w;
+        k += 1;
+    }
+    let o = v.operator;
+    let last = o[5];
+    last.phase
+}
+
+// A fresh voice gets a patch, is blank for a block, and sounds for so many. The tables are made once.
+#[no_mangle]
+pub extern "C" fn bench_voice(bytes: &[u8], note: f32, blocks: u32, block: &mut [f32]) -> u32 {
+    let lut = sine::lut_sine();
+    let high = units::lut_pitch_ratio_high();
+    let low = units::lut_pitch_ratio_low();
+    let table = opcodes::opcodes_6_32();
+    let read = patch::unpack(Patch::new(), bytes);
+    let patch = read.patch;
+    let started = voice::init(6, 48000.0);
+    let fresh = started.voice;
+    let loaded = voice::set_patch(fresh, patch, &table);
+    let dirty = loaded.voice;
+    let p = VoiceParameters {
+        sustain: false,
+        gate: true,
+        note: note,
+        velocity: 0.8,
+        brightness: 0.5,
+        envelope_control: 0.5,
+        pitch_mod: 0.0,
+        amp_mod: 0.0,
+    };
+    let blank = voice::render_with(&lut, &high, &low, dirty, p, block);
+    let clean = blank.voice;
+    sounded(&lut, &high, &low, clean, p, blocks, block)
 }

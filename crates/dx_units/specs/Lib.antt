@@ -1,4 +1,1 @@
-pub mod Tables
-pub mod Pow
-pub mod Units
 pub mod Answers

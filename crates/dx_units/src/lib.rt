@@ -1,19 +1,20 @@
 // The conversions of DX7 patch data, after dx_units.rs and in its order, and the step for a frequency,
 // after operator.rs. An entry refuses a field above its largest number (6) and a parameter that is a NaN
 // or outside its range (7), and its promise names the answer for every input. The conversions
-// themselves, for callers that have checked their fields, are in `inner`.
+// themselves, for callers that have checked their fields, are in `conversions`.
 ghost use mathlib.Core.Path.{_≡_};
-ghost use Rattle.dx_units.specs.Pow.{pow2Fast, stepFor};
-ghost use Rattle.dx_units.specs.Tables.{lutCoarse, lutCubeRoot};
 ghost use Rattle.dx_units.specs.Answers.{operatorLevelAnswer, pitchEnvelopeLevelAnswer};
 ghost use Rattle.dx_units.specs.Answers.{operatorEnvelopeIncrementAnswer, pitchEnvelopeIncrementAnswer};
 ghost use Rattle.dx_units.specs.Answers.{lfoFrequencyAnswer, lfoDelayAnswer, normalizeVelocityAnswer};
 ghost use Rattle.dx_units.specs.Answers.{rateScalingAnswer, ampModSensitivityAnswer};
 ghost use Rattle.dx_units.specs.Answers.{pitchModSensitivityAnswer, keyboardScalingAnswer};
 ghost use Rattle.dx_units.specs.Answers.{keyboardFits, frequencyRatioAnswer, frequencyFits};
-
-pub mod inner;
-mod tables;
+pub use conversions::Increments;
+pub use conversions::Ratio;
+pub use conversions::frequency_step;
+pub use conversions::lut_coarse;
+pub use conversions::lut_cube_root;
+pub use conversions::pow_2_fast;
 
 // A level, or the number of a refusal.
 pub enum Level {
@@ -27,43 +28,16 @@ pub enum Converted {
     Refused(u8),
 }
 
-// The increments of an LFO's delay and of the fade that follows.
-pub struct Increments {
-    pub first: f32,
-    pub second: f32,
-}
-
 // Both increments, or the number of a refusal.
 pub enum Delay {
     Value(Increments),
     Refused(u8),
 }
 
-// A frequency as a ratio to the note's, or to 1 Hz.
-pub enum Ratio {
-    Note(f32),
-    Hertz(f32),
-}
-
 // A ratio, or the number of a refusal.
 pub enum Tuning {
     Value(Ratio),
     Refused(u8),
-}
-
-// 2^x, by moving the exponent of a polynomial's value at the part of x past a whole number. The order is
-// the polynomial's.
-pub fn pow_2_fast(x: f32, order: i32) -> f32
-    ensures { λ r. ⌜ r ≡ pow2Fast x order ⌝ }
-{
-    if order == 1 {
-        let bits = numbers::f32_as_i32(8388608.0 * (127.0 + x));
-        return numbers::f32_from_bits(numbers::i32_as_u32(bits));
-    }
-    let integral = inner::whole_below(x);
-    let mantissa = inner::mantissa(x - numbers::i32_as_f32(integral), order);
-    let exponent = numbers::wrapping_shl_u32(numbers::i32_as_u32(integral), 23);
-    numbers::f32_from_bits(numbers::wrapping_add_u32(mantissa, exponent))
 }
 
 // An operator level from 0 to 99 as the complement of the chip's total level.
@@ -73,7 +47,7 @@ pub fn operator_level(level: u8) -> Level
     if level > 99 {
         return Level::Refused(6);
     }
-    Level::Value(inner::operator_level(level))
+    Level::Value(conversions::operator_level(level))
 }
 
 // A pitch envelope's level from 0 to 99 in octaves: 18 is one down, 50 none, 82 one up.
@@ -83,7 +57,7 @@ pub fn pitch_envelope_level(level: u8) -> Converted
     if level > 99 {
         return Converted::Refused(6);
     }
-    Converted::Value(inner::pitch_envelope_level(level))
+    Converted::Value(conversions::pitch_envelope_level(level))
 }
 
 // An operator envelope's rate from 0 to 99 as a frequency.
@@ -93,7 +67,7 @@ pub fn operator_envelope_increment(rate: u8) -> Converted
     if rate > 99 {
         return Converted::Refused(6);
     }
-    Converted::Value(inner::operator_envelope_increment(rate))
+    Converted::Value(conversions::operator_envelope_increment(rate))
 }
 
 // A pitch envelope's rate from 0 to 99 as a frequency.
@@ -103,7 +77,7 @@ pub fn pitch_envelope_increment(rate: u8) -> Converted
     if rate > 99 {
         return Converted::Refused(6);
     }
-    Converted::Value(inner::pitch_envelope_increment(rate))
+    Converted::Value(conversions::pitch_envelope_increment(rate))
 }
 
 // An LFO's rate from 0 to 99 as a frequency.
@@ -113,7 +87,7 @@ pub fn lfo_frequency(rate: u8) -> Converted
     if rate > 99 {
         return Converted::Refused(6);
     }
-    Converted::Value(inner::lfo_frequency(rate))
+    Converted::Value(conversions::lfo_frequency(rate))
 }
 
 // An LFO's delay from 0 to 99 as two increments.
@@ -123,7 +97,7 @@ pub fn lfo_delay(delay: u8) -> Delay
     if delay > 99 {
         return Delay::Refused(6);
     }
-    Delay::Value(inner::lfo_delay(delay))
+    Delay::Value(conversions::lfo_delay(delay))
 }
 
 // A velocity from 0 to 1, made ready for its scaling.
@@ -132,7 +106,7 @@ pub fn normalize_velocity(velocity: f32) -> Converted
 {
     if velocity >= 0.0 {
         if velocity <= 1.0 {
-            return Converted::Value(inner::normalize_velocity(velocity));
+            return Converted::Value(conversions::normalize_velocity(velocity));
         }
     }
     Converted::Refused(7)
@@ -147,7 +121,7 @@ pub fn rate_scaling(note: f32, scaling: u8) -> Converted
     }
     if note >= 0.0 {
         if note <= 127.0 {
-            return Converted::Value(inner::rate_scaling(note, scaling));
+            return Converted::Value(conversions::rate_scaling(note, scaling));
         }
     }
     Converted::Refused(7)
@@ -160,7 +134,7 @@ pub fn amp_mod_sensitivity(sensitivity: u8) -> Converted
     if sensitivity > 3 {
         return Converted::Refused(6);
     }
-    Converted::Value(inner::amp_mod_sensitivity(sensitivity))
+    Converted::Value(conversions::amp_mod_sensitivity(sensitivity))
 }
 
 // The pitch modulation sensitivity, from 0 to 7.
@@ -170,7 +144,7 @@ pub fn pitch_mod_sensitivity(sensitivity: u8) -> Converted
     if sensitivity > 7 {
         return Converted::Refused(6);
     }
-    Converted::Value(inner::pitch_mod_sensitivity(sensitivity))
+    Converted::Value(conversions::pitch_mod_sensitivity(sensitivity))
 }
 
 // The level's change at a note, by the side of the break point on which it lies. All five numbers are
@@ -197,7 +171,7 @@ pub fn keyboard_scaling(
     }
     if note >= 0.0 {
         if note <= 127.0 {
-            return Converted::Value(inner::keyboard_scaling(
+            return Converted::Value(conversions::keyboard_scaling(
                 note,
                 left_depth,
                 right_depth,
@@ -219,15 +193,7 @@ pub fn frequency_ratio(mode: u8, coarse: u8, fine: u8, detune: u8) -> Tuning
     }
     let high = units::lut_pitch_ratio_high();
     let low = units::lut_pitch_ratio_low();
-    Tuning::Value(inner::frequency_ratio(&high, &low, mode, coarse, fine, detune))
-}
-
-// The step of a phase of 32 bits at a frequency in turns a sample: held at a half turn from there on and
-// for a NaN, and at 0 below 0.
-pub fn frequency_step(frequency: f32) -> u32
-    ensures { λ r. ⌜ r ≡ stepFor frequency ⌝ }
-{
-    numbers::f32_as_u32(numbers::f32_min(frequency, 0.5) * 4294967296.0)
+    Tuning::Value(conversions::frequency_ratio(&high, &low, mode, coarse, fine, detune))
 }
 
 // Whether keyboard scaling's numbers are at most their largest.
@@ -275,17 +241,4 @@ fn frequency_fits(mode: u8, coarse: u8, fine: u8, detune: u8) -> bool
         return false;
     }
     true
-}
-
-// Two tables whole, which no conversion shows entry by entry, to be compared with the Rust's.
-pub fn lut_coarse() -> [f32; 32]
-    ensures { λ r. ⌜ r ≡ lutCoarse ⌝ }
-{
-    tables::LUT_COARSE
-}
-
-pub fn lut_cube_root() -> [f32; 17]
-    ensures { λ r. ⌜ r ≡ lutCubeRoot ⌝ }
-{
-    tables::LUT_CUBE_ROOT
 }

@@ -1,28 +1,20 @@
 -- An envelope of four stages, after envelope.rs: its start, its value and its render, with one rounding per written operation, in the Rust's order.
 -- `reshape` is true for an operator's envelope and false for pitch. A NaN compares false everywhere. Definitions only.
 use mathlib.Core.Bool.{Bool, _&&_, cond}
-use mathlib.Core.List.{List, [], _∷_}
 use Prim.Native.Nat.{ℕ, _+_, _%_, _^_}
 use lib.Dec.{eqb, ltb}
 use lib.ListN.{getD}
 use lib.Ieee.{Float, nan, lt, le, eq}
 use Rattle.numbers.specs.F32.{_⊕_, _⊖_, _⊗_, _⊘_, decimal, minusDecimal, asFloat}
 use Rattle.numbers.specs.Extremes.{maximum}
+use Rattle.stages.specs.Stages.{perStage, levelBefore, jump}
 use Rattle.envelope.specs.declared.Envelope.{Envelope}
-
--- one number for each of the four stages
-abbrev pub perStage : (ℕ → Float) → List Float
-perStage f = f 0 ∷ f 1 ∷ f 2 ∷ f 3 ∷ []
 
 abbrev pub incrementAt : Envelope → ℕ → Float
 incrementAt e stage = getD (e .increment) stage nan
 
 abbrev pub levelAt : Envelope → ℕ → Float
 levelAt e stage = getD (e .level) stage nan
-
--- the level before a stage's; the first's is the last
-abbrev pub levelBefore : List Float → ℕ → Float
-levelBefore levels stage = getD levels ((stage + 3) % 4) nan
 
 -- at rest at the end of the last stage; the levels are halves of each other, but that the last is 0
 unfoldable pub initialised : Float → Envelope
@@ -44,10 +36,6 @@ previousLevel = minusDecimal 100 0
 -- where a stage starts: at the level before it, or at a level of its own
 unfoldable pub startOf : Float → Float → Float
 startOf before start = cond (eq start previousLevel) before start
-
--- an operator's rising segment jumps to this level
-unfoldable pub jump : Float
-jump = decimal 67 1
 
 -- an operator's rising segment is bent, vaguely as a logarithm
 unfoldable pub bent : Float → Float

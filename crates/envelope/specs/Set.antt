@@ -1,15 +1,11 @@
--- Setting an envelope from a patch's rates and levels, after envelope.rs, with one rounding per written operation. Definitions only.
-use mathlib.Core.Bool.{Bool, _&&_, cond}
+-- Setting an envelope from a patch's rates and levels, after envelope.rs. Definitions only.
 use mathlib.Core.List.{List}
-use Prim.Native.Nat.{ℕ, _+_, _-_, _*_, _/_}
-use lib.Dec.{eqb, ltb}
+use Prim.Native.Nat.{ℕ}
+use lib.Dec.{eqb}
 use lib.ListN.{getD}
-use lib.Ieee.{Float, nan, lt, eq, ne}
-use Rattle.numbers.specs.F32.{_⊖_, _⊗_, _⊘_, decimal, asFloat}
-use Rattle.numbers.specs.Extremes.{maximum, magnitude}
-use Rattle.dx_units.specs.Units.{operatorLevel, operatorEnvelopeIncrement, pitchEnvelopeLevel, pitchEnvelopeIncrement}
+use lib.Ieee.{Float}
+use Rattle.stages.specs.Stages.{operatorLevels, operatorIncrements, pitchLevels, pitchIncrements}
 use Rattle.envelope.specs.declared.Envelope.{Envelope}
-use Rattle.envelope.specs.Envelope.{perStage, levelBefore, jump}
 
 -- the same envelope with other increments and levels
 abbrev pub setTo : Envelope → List Float → List Float → Envelope
@@ -22,55 +18,10 @@ setTo e increment level = record {
   scale = e .scale;
 }
 
--- ---- operators
-
--- an eighth of the converted level, made even, plus the global level less 133; of a half where that is below 1
-unfoldable pub operatorStageLevel : ℕ → ℕ → Float
-operatorStageLevel level globalLevel =
-    let scaled = operatorLevel level / 2 * 2 + globalLevel in
-    decimal 125 3 ⊗ cond (ltb scaled 134) (decimal 5 1) (asFloat (scaled - 133))
-
--- a rising stage: where both ends are lifted to 6.7 it is over at once, and its shape makes it faster otherwise
-unfoldable pub risingIncrement : Float → Float → Float → Float
-risingIncrement increment from to =
-    let low = maximum jump from in
-    let high = maximum jump to in
-    cond (eq low high) (decimal 1 0) (increment ⊗ (decimal 72 1 ⊘ (high ⊖ low)))
-
--- a plateau has a rate of its own, and a fast one is twenty times as fast; a falling stage's goes by its height
-unfoldable pub operatorStageIncrement : ℕ → Float → Float → Bool → Float
-operatorStageIncrement rate from to fast =
-    let increment = operatorEnvelopeIncrement rate in
-    cond (eq from to) (cond fast (increment ⊗ decimal 6 1 ⊗ decimal 20 0) (increment ⊗ decimal 6 1))
-    (cond (lt from to) (risingIncrement increment from to) (increment ⊗ (decimal 1 0 ⊘ (from ⊖ to))))
-
-unfoldable pub operatorLevels : List ℕ → ℕ → List Float
-operatorLevels level globalLevel = perStage (λ i. operatorStageLevel (getD level i 0) globalLevel)
-
--- the first stage is fast where its level is 0
-unfoldable pub operatorIncrements : List ℕ → List Float → Bool → Float → List Float
-operatorIncrements rate levels fast scale =
-    perStage (λ i. operatorStageIncrement (getD rate i 0) (levelBefore levels i) (getD levels i nan) (eqb i 0 && fast) ⊗ scale)
-
 unfoldable pub operatorSet : Envelope → List ℕ → List ℕ → ℕ → Envelope
 operatorSet e rate level globalLevel =
     let levels = operatorLevels level globalLevel in
     setTo e (operatorIncrements rate levels (eqb (getD level 0 0) 0) (e .scale)) levels
-
--- ---- pitch
-
--- a stage's rate goes by its height; a plateau has the same everywhere but in the last stage
-unfoldable pub pitchStageIncrement : ℕ → Float → Float → Bool → Float
-pitchStageIncrement rate from to last =
-    let increment = pitchEnvelopeIncrement rate in
-    cond (ne from to) (increment ⊗ (decimal 1 0 ⊘ magnitude (from ⊖ to))) (cond last increment (decimal 2 1))
-
-unfoldable pub pitchLevels : List ℕ → List Float
-pitchLevels level = perStage (λ i. pitchEnvelopeLevel (getD level i 0))
-
-unfoldable pub pitchIncrements : List ℕ → List Float → Float → List Float
-pitchIncrements rate levels scale =
-    perStage (λ i. pitchStageIncrement (getD rate i 0) (levelBefore levels i) (getD levels i nan) (eqb i 3) ⊗ scale)
 
 unfoldable pub pitchSet : Envelope → List ℕ → List ℕ → Envelope
 pitchSet e rate level =

@@ -16,7 +16,7 @@ use lib.Ieee.Positive.{positive, between, mul-mono, le→cross}
 use lib.Ieee.Scale.{finite}
 use borrow.Author.Tests.{eqb-true, eqb-false, ne-eqb}
 use Rattle.numbers.specs.F32.{_⊕_, _⊖_, _⊗_, _⊘_, decimal}
-use Rattle.dx_units.specs.Units.{lfoFrequency, lfoSteps}
+use Rattle.conversions.specs.Units.{lfoFrequency, lfoSteps}
 use Rattle.patch.specs.declared.ModulationParameters.{ModulationParameters}
 use Rattle.lfo.specs.declared.Lfo.{Lfo}
 use Rattle.lfo.specs.declared.Moved.{Moved}

@@ -310,13 +310,13 @@ fn adjust(lfo: Lfo, m: patch::ModulationParameters) -> Lfo
     ensures { λ r. ⌜ r ≡ adjusted lfo m ⌝ }
 {
     let one_hz = lfo.one_hz;
-    let delay = dx_units::inner::lfo_delay(m.delay);
-    let sensitivity = dx_units::inner::pitch_mod_sensitivity(m.pitch_mod_sensitivity);
+    let delay = conversions::lfo_delay(m.delay);
+    let sensitivity = conversions::pitch_mod_sensitivity(m.pitch_mod_sensitivity);
     let increments = [delay.first * one_hz, delay.second * one_hz];
     let waveform = waveform_from(m.waveform);
     Lfo {
         phase: lfo.phase,
-        frequency: dx_units::inner::lfo_frequency(m.rate) * one_hz,
+        frequency: conversions::lfo_frequency(m.rate) * one_hz,
         delay_phase: lfo.delay_phase,
         delay_increment: increments,
         value: lfo.value,

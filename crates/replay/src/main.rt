@@ -6,44 +6,25 @@ ghost use Prim.Native.Nat.{_≤_, min};
 ghost use lib.ListN.{length};
 
 mod calls;
-mod conversions;
-mod envelopes;
-mod leaves;
-mod lfos;
-mod patches;
-mod registers;
-mod rows;
-mod states;
-mod wire;
-
-use registers::Registers;
 
 // Every answer fits in this many bytes.
 const ROOM: usize = 24576;
 
 // How far a run has come: the bytes of the script at the buffer's start that wait for more, the
-// calls answered, whether it goes on, and the registers.
+// calls answered, and whether it goes on.
 struct Run {
     held: usize,
     calls: u64,
     going: bool,
-    registers: Registers,
 }
 
 // What was answered of a buffer: the bytes taken, the bytes of the answers, the calls answered up
-// to now, and whether the next call names no entry or an entry with a state.
+// to now, and whether the next call names no entry.
 struct Progress {
     at: usize,
     put: usize,
     calls: u64,
     unknown: bool,
-    state: bool,
-}
-
-// The same with the registers.
-struct Done {
-    progress: Progress,
-    registers: Registers,
 }
 
 fn least(a: usize, b: usize) -> usize
@@ -52,15 +33,15 @@ fn least(a: usize, b: usize) -> usize
     if a < b { a } else { b }
 }
 
-// Answers the whole calls of entries without a state while the answers have room.
-fn answer_some(script: &[u8], answers: &mut [u8], before: u64) -> Progress
+// Answers the whole calls of the script while the answers have room.
+fn answer_all(script: &[u8], registers: &mut [u8], answers: &mut [u8], before: u64) -> Progress
     ensures { λ r. ⌜ (r .at ≤ length (now (script .entry))) × (r .put ≤ length (now (answers .entry))) ⌝ }
 {
     let mut at: usize = 0;
     let mut put: usize = 0;
     let mut calls = before;
     while at < script.len() && ROOM <= answers.len() - put {
-        let one = calls::answer(&script[at..], &mut answers[put..]);
+        let one = calls::answer(&script[at..], registers, &mut answers[put..]);
         let read = one.read;
         if read == 0 {
             return Progress {
@@ -68,12 +49,10 @@ fn answer_some(script: &[u8], answers: &mut [u8], before: u64) -> Progress
                 put,
                 calls,
                 unknown: one.unknown,
-                state: one.state,
             };
         }
-        let wrote = one.wrote;
         at += least(read, script.len() - at);
-        put += least(wrote, answers.len() - put);
+        put += least(one.wrote, answers.len() - put);
         calls = std::num::wrapping_add_u64(calls, 1);
     }
     Progress {
@@ -81,71 +60,7 @@ fn answer_some(script: &[u8], answers: &mut [u8], before: u64) -> Progress
         put,
         calls,
         unknown: false,
-        state: false,
     }
-}
-
-// Answers the call of an entry with a state behind what was answered.
-fn answer_state(script: &[u8], answers: &mut [u8], done: Done) -> Done {
-    let progress = done.progress;
-    let at = least(progress.at, script.len());
-    let put = least(progress.put, answers.len());
-    let registers = done.registers;
-    let one = states::answer(registers, &script[at..], &mut answers[put..]);
-    let next = one.registers;
-    Done {
-        progress: Progress {
-            at: at + least(one.read, script.len() - at),
-            put: put + least(one.wrote, answers.len() - put),
-            calls: std::num::wrapping_add_u64(progress.calls, 1),
-            unknown: false,
-            state: true,
-        },
-        registers: next,
-    }
-}
-
-// Answers the calls behind what was answered, up to the next one with a state.
-fn answer_plain(script: &[u8], answers: &mut [u8], done: Done) -> Done {
-    let progress = done.progress;
-    let at = least(progress.at, script.len());
-    let put = least(progress.put, answers.len());
-    let registers = done.registers;
-    let some = answer_some(&script[at..], &mut answers[put..], progress.calls);
-    Done {
-        progress: Progress {
-            at: at + least(some.at, script.len() - at),
-            put: put + least(some.put, answers.len() - put),
-            calls: some.calls,
-            unknown: some.unknown,
-            state: some.state,
-        },
-        registers,
-    }
-}
-
-// Answers the whole calls of the script while the answers have room. Each turn takes a call with a
-// state at least, so there are no more turns than bytes.
-fn answer_all(script: &[u8], answers: &mut [u8], before: u64, registers: Registers) -> Done {
-    let start = Progress {
-        at: 0,
-        put: 0,
-        calls: before,
-        unknown: false,
-        state: true,
-    };
-    let mut done = Done {
-        progress: start,
-        registers,
-    };
-    done = answer_plain(script, answers, done);
-    let mut turns = script.len();
-    while turns > 0 && done.progress.state {
-        done = answer_state(script, answers, done);
-        done = answer_plain(script, answers, done);
-        turns -= 1;
-    }
-    done
 }
 
 // Moves the bytes from `at` up to `end` to the buffer's start.
@@ -208,45 +123,47 @@ fn is_over(script: &[u8], done: Progress, more: bool, end: usize) -> bool {
     false
 }
 
+// Writes the first bytes of the answers, and says whether they could be written.
+fn send(answers: &[u8], put: usize) -> bool {
+    io::write_all(1, wire::start(answers, put))
+}
+
 // Reads what there is, answers its whole calls and keeps the rest.
-fn turn(script: &mut [u8], answers: &mut [u8], run: Run) -> Run {
+fn turn(script: &mut [u8], registers: &mut [u8], answers: &mut [u8], run: Run) -> Run {
     let held = least(run.held, script.len());
     let end = read_behind(script, held);
-    let registers = run.registers;
-    let done = answer_all(&script[..end], answers, run.calls, registers);
-    let progress = done.progress;
-    let next = done.registers;
-    let at = least(progress.at, end);
-    let put = least(progress.put, answers.len());
-    let sent = io::write_all(1, &answers[..put]);
-    let over = is_over(script, progress, held < end, end);
+    let done = answer_all(wire::start(script, end), registers, answers, run.calls);
+    let sent = send(answers, done.put);
+    let over = is_over(script, done, held < end, end);
+    let at = least(done.at, end);
     keep(script, at, end);
     Run {
         held: end - at,
-        calls: progress.calls,
+        calls: done.calls,
         going: sent && !over,
-        registers: next,
     }
 }
 
 // Turns until the script is over. Nothing says that the input ends, so turns are counted down, from
 // a number that no run uses up.
-fn replay(script: &mut [u8], answers: &mut [u8]) {
+fn replay(script: &mut [u8], registers: &mut [u8], answers: &mut [u8]) {
     let mut run = Run {
         held: 0,
         calls: 0,
         going: true,
-        registers: Registers::new(),
     };
     let mut turns = u64::MAX;
     while turns > 0 && run.going {
-        run = turn(script, answers, run);
+        run = turn(script, registers, answers, run);
         turns -= 1;
     }
 }
 
+// The registers at the start: all zero but the generator's number, which is the Rust's first one.
 fn main() {
     let mut script = io::large_buffer();
     let mut answers = io::large_buffer();
-    replay(&mut script, &mut answers);
+    let mut registers = [0u8; wire::REGISTERS];
+    wire::put_word(&mut registers, wire::GENERATOR as usize, 0x21);
+    replay(&mut script, &mut registers, &mut answers);
 }

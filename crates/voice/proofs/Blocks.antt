@@ -12,7 +12,7 @@ use lib.Ieee.Fits.{and-l, and-r}
 use Rattle.numbers.specs.F32.{_⊕_}
 use Rattle.sine.specs.Table.{lutSine}
 use Rattle.units.specs.Tables.{lutPitchRatioHigh, lutPitchRatioLow}
-use Rattle.dx_units.specs.Units.{normalizedVelocity}
+use Rattle.conversions.specs.Units.{normalizedVelocity}
 use Rattle.patch.specs.declared.Patch.{Patch}
 use Rattle.patch.specs.Packed.{patchFits, operatorsFit, stagesFit, modulationsFit, nameFits}
 use Rattle.limits.proofs.Within.{patch-fits}

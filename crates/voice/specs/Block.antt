@@ -6,7 +6,7 @@ use lib.Dec.{eqb}
 use lib.ListN.{length, getD}
 use lib.Ieee.{Float}
 use Rattle.numbers.specs.F32.{_⊕_}
-use Rattle.dx_units.specs.Units.{normalizedVelocity}
+use Rattle.conversions.specs.Units.{normalizedVelocity}
 use Rattle.operator.specs.declared.Operator.{Operator}
 use Rattle.block.specs.declared.Operators.{Operators}
 use Rattle.block.specs.Calls.{noOperator, Ran, ran}

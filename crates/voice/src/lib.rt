@@ -16,7 +16,7 @@ ghost use Rattle.voice.specs.Answers.{initAnswer, loaded, setPatchAnswer
 use algorithms::Compiled;
 use algorithms::Plan;
 use block::Operators;
-use dx_units::Ratio;
+use conversions::Ratio;
 use envelope::Envelope;
 use operator::Feedback;
 use operator::Operator;
@@ -359,7 +359,7 @@ fn strike(v: Voice, p: VoiceParameters) -> Struck
     if note_on(v, p) | p.sustain {
         return Struck {
             note: p.note,
-            normalized_velocity: dx_units::inner::normalize_velocity(p.velocity),
+            normalized_velocity: conversions::normalize_velocity(p.velocity),
         };
     }
     Struck {

@@ -7,8 +7,8 @@ use native.Mathlib.Numerals.{add-one}
 use lib.ListN.{getD}
 use lib.Ieee.{Float, nan}
 use Rattle.numbers.specs.F32.{_⊕_, _⊗_}
-use Rattle.dx_units.specs.Pow.{stepFor}
-use Rattle.dx_units.specs.Units.{rateScaling}
+use Rattle.conversions.specs.Pow.{stepFor}
+use Rattle.conversions.specs.Units.{rateScaling}
 use Rattle.envelope.specs.declared.Envelope.{Envelope}
 use Rattle.patch.specs.declared.Operator.{Operator}
 use Rattle.patch.specs.Form.{operatorAt}

@@ -6,7 +6,7 @@ ghost use lib.Dec.{T};
 ghost use Rattle.patch.specs.Packed.{operatorFits, operatorsFit};
 ghost use Rattle.voice_levels.specs.Levels.{timingFor, followed, noteFrequency, frequencyOf, scalingOf, amplitudeOf};
 ghost use Rattle.voice_levels.specs.Levels.{brightnessOf, leveled, leveledTo, allStages};
-use dx_units::Ratio;
+use conversions::Ratio;
 use envelope::Envelope;
 use voice_setup::Tuned;
 
@@ -62,9 +62,9 @@ pub fn timing_for(
     ensures { λ r. ⌜ r ≡ timingFor sustain gate «sample_rate» «envelope_control» samples ⌝ }
 {
     let envelope_rate = numbers::u32_as_f32(samples);
-    let ad_scale = dx_units::pow_2_fast((0.5 - envelope_control) * 8.0, 1);
+    let ad_scale = conversions::pow_2_fast((0.5 - envelope_control) * 8.0, 1);
     let release = -numbers::f32_abs(envelope_control - 0.3) * 8.0;
-    let release_scale = dx_units::pow_2_fast(release, 1);
+    let release_scale = conversions::pow_2_fast(release, 1);
     let gate_duration = 1.5 * sample_rate;
     let envelope_sample = gate_duration * envelope_control;
     Timing {
@@ -137,7 +137,7 @@ fn scaling(g: Scene, op: patch::Operator, level_headroom: f32, opcode: u8) -> f3
     ensures { λ r. ⌜ r ≡ scalingOf g op «level_headroom» opcode ⌝ }
 {
     let k = op.keyboard_scaling;
-    let kb_scaling = dx_units::inner::keyboard_scaling(
+    let kb_scaling = conversions::keyboard_scaling(
         g.note,
         k.left_depth,
         k.right_depth,
@@ -155,9 +155,9 @@ fn amplitude(amp_mod: f32, sensitivity: u8, level: f32) -> f32
     requires { ⌜ sensitivity ≤ 3 ⌝ }
     ensures { λ r. ⌜ r ≡ amplitudeOf «amp_mod» sensitivity level ⌝ }
 {
-    let log_level_mod = dx_units::inner::amp_mod_sensitivity(sensitivity) * amp_mod - 1.0;
-    let level_mod = 1.0 - dx_units::pow_2_fast(6.4 * log_level_mod, 2);
-    dx_units::pow_2_fast(-14.0 + level * level_mod, 2)
+    let log_level_mod = conversions::amp_mod_sensitivity(sensitivity) * amp_mod - 1.0;
+    let level_mod = 1.0 - conversions::pow_2_fast(6.4 * log_level_mod, 2);
+    conversions::pow_2_fast(-14.0 + level * level_mod, 2)
 }
 
 fn level_operator(
@@ -171,9 +171,9 @@ fn level_operator(
     requires { ⌜ (e .stage ≤ 3) × T (operatorFits op) ⌝ }
     ensures { λ r. ⌜ r ≡ leveled g op tuned «level_headroom» opcode e ⌝ }
 {
-    let step = dx_units::frequency_step(frequency(g, tuned));
+    let step = conversions::frequency_step(frequency(g, tuned));
     let t = g.timing;
-    let rate = t.envelope_rate * dx_units::inner::rate_scaling(g.note, op.rate_scaling);
+    let rate = t.envelope_rate * conversions::rate_scaling(g.note, op.rate_scaling);
     let f = follow(t, true, rate, e);
     let level = f.value + scaling(g, op, level_headroom, opcode);
     let amplitude = amplitude(g.amp_mod, op.amp_mod_sensitivity, level);

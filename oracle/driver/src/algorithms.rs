@@ -103,13 +103,13 @@ const FOURS: u64 = 1 << 24;
 const SIXES: u64 = 10_000_000;
 
 /// A call as a plan has it: first operator, length, input, output, add.
-type Call = [u8; 5];
+pub type Call = [u8; 5];
 
 /// A row's calls, or the number and operator of its refusal.
-struct Planned {
-    number: u8,
-    at: u8,
-    calls: Vec<Call>,
+pub struct Planned {
+    pub number: u8,
+    pub at: u8,
+    pub calls: Vec<Call>,
 }
 
 impl Planned {
@@ -125,18 +125,18 @@ fn refused(number: u8, at: usize) -> Planned {
     Planned { number, at: at as u8, calls: Vec::new() }
 }
 
-fn counted(operators: usize) -> bool {
+pub fn counted(operators: usize) -> bool {
     operators == 4 || operators == 6
 }
 
 /// Whether 2 does not apply.
-fn tabled(operators: usize, table: &[u8], row: usize) -> bool {
+pub fn tabled(operators: usize, table: &[u8], row: usize) -> bool {
     let whole = counted(operators) && !table.is_empty() && table.len() % operators == 0;
     whole && table.len() / operators <= 32 && row < table.len() / operators
 }
 
 /// The plan of a row of 4 or 6 opcodes.
-fn planned(registers: &mut Registers, operators: usize, row: &[u8]) -> Planned {
+pub fn planned(registers: &mut Registers, operators: usize, row: &[u8]) -> Planned {
     match operators {
         4 => compiled(&mut registers.rows_4, row.try_into().unwrap()),
         _ => compiled(&mut registers.rows_6, row.try_into().unwrap()),
@@ -200,7 +200,7 @@ fn operators(draw: &mut Draw) -> u8 {
 }
 
 /// A row of so many opcodes: a built-in one with some bits turned, one that mostly reads what is set, or anything.
-fn row(draw: &mut Draw, length: usize) -> Vec<u8> {
+pub fn row(draw: &mut Draw, length: usize) -> Vec<u8> {
     match draw.below(4) {
         0 => (0..length).map(|_| draw.random() as u8).collect(),
         1 => {

@@ -31,13 +31,14 @@ pub fn quiet(x: f32) -> f32 {
 /// The randomness of a script (splitmix64), and the call that is being made.
 pub struct Draw {
     state: u64,
+    gate: bool,
     call: Vec<u8>,
 }
 
 #[allow(dead_code)] // later groups use the rest
 impl Draw {
     pub fn new(seed: u64) -> Self {
-        Draw { state: seed, call: Vec::new() }
+        Draw { state: seed, gate: false, call: Vec::new() }
     }
 
     pub fn random(&mut self) -> u64 {
@@ -58,6 +59,12 @@ impl Draw {
 
     pub fn one_of<T: Copy>(&mut self, list: &[T]) -> T {
         list[self.below(list.len() as u32) as usize]
+    }
+
+    /// A gate that mostly stays as it was drawn last.
+    pub fn gate(&mut self) -> bool {
+        self.gate ^= self.one_in(8);
+        self.gate
     }
 
     /// A field from 0 to `most`, both ends often.

@@ -4,7 +4,7 @@
 use crate::draw::Draw;
 use crate::script::{Answer, Arguments, Kind};
 use crate::states::Registers;
-use crate::{algorithms, envelope, lfo, numbers, patch, units};
+use crate::{algorithms, envelope, lfo, numbers, patch, units, voice};
 use std::io::{self, Write};
 
 pub struct Entry {
@@ -72,6 +72,7 @@ pub const GROUPS: &[Group] = &[
     Group { name: "rows", entries: algorithms::ENTRIES },
     Group { name: "envelopes", entries: envelope::ENTRIES },
     Group { name: "lfo", entries: lfo::ENTRIES },
+    Group { name: "voices", entries: voice::ENTRIES },
 ];
 
 pub fn all() -> impl Iterator<Item = &'static Entry> {

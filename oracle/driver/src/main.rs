@@ -19,6 +19,7 @@ mod side;
 mod smoke;
 mod states;
 mod units;
+mod voice;
 
 use entries::Entry;
 use std::io::{self, Write};

@@ -176,7 +176,7 @@ fn beside(draw: &mut Draw, most: u8) {
 }
 
 /// A patch's fields: mostly all in range but at most one, so that packing is often accepted.
-fn fields(draw: &mut Draw) {
+pub fn fields(draw: &mut Draw) {
     const OPERATOR: [u8; 21] = [99, 99, 99, 99, 99, 99, 99, 99, 99, 99, 3, 3, 99, 7, 3, 7, 99, 1, 31, 99, 14];
     const COMMON: [u8; 19] = [99, 99, 99, 99, 99, 99, 99, 99, 31, 7, 1, 99, 99, 99, 99, 1, 5, 15, 48];
     let limits: Vec<u8> = OPERATOR.repeat(6).into_iter().chain(COMMON).chain([127; 10]).collect();

@@ -1,5 +1,6 @@
 //! The states that live between calls, and the few helpers by which entries reach into the Rust.
 
+use crate::voice::State;
 use plaits::fm::algorithms::{Algorithms, RenderCall};
 use plaits::fm::envelope::{OperatorEnvelope, PitchEnvelope};
 use plaits::fm::lfo::Lfo;
@@ -10,7 +11,7 @@ use plaits::utils::random;
 use std::cell::RefCell;
 
 /// The registers, one of each kind. The generator's number is the Rust's own: `random::seed` sets it, `random::state`
-/// reads it.
+/// reads it. The tables and the Rust's voices are for work within a call.
 pub struct Registers {
     pub patch: Patch,
     pub operator_envelope: OperatorEnvelope,
@@ -20,7 +21,7 @@ pub struct Registers {
     pub rows_6: Algorithms<6, 32>,
     pub voice_4: Voice<'static, 4, 32>,
     pub voice_6: Voice<'static, 6, 32>,
-    pub block: Vec<f32>,
+    pub voice: State,
 }
 
 impl Registers {
@@ -35,7 +36,7 @@ impl Registers {
             rows_6: Algorithms::new(),
             voice_4: Voice::new(),
             voice_6: Voice::new(),
-            block: Vec::new(),
+            voice: State::new(),
         }
     }
 }

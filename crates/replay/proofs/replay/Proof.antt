@@ -7,13 +7,10 @@ use Rattle.replay.proofs.replay.Statement.{statement}
 use Rattle.replay.proofs.replay.Tie as tie
 
 abbrev Inv-loop : tie.InvT-loop
-Inv-loop script₀ answers₀ run₀ turns₀ script answers run turns = (length script ≡ length script₀) × (length answers ≡ length answers₀)
+Inv-loop script₀ registers₀ answers₀ run₀ turns₀ script registers answers run turns = (length script ≡ length script₀) × (length registers ≡ length registers₀) × (length answers ≡ length answers₀)
 
 abbrev μ-loop : tie.MeasureT-loop
-μ-loop script₀ answers₀ run₀ turns₀ script answers run turns = turns
-
-new-requires : tie.Need-new-requires Inv-loop μ-loop
-new-requires c κs = search needs
+μ-loop script₀ registers₀ answers₀ run₀ turns₀ script registers answers run turns = turns
 
 loop-holds : tie.Need-loop-holds Inv-loop μ-loop
 loop-holds c = omega arith
@@ -36,14 +33,20 @@ same-length c = omega arith
 same-length-2 : tie.Need-same-length-2 Inv-loop μ-loop
 same-length-2 c = omega arith
 
-returns : tie.Need-returns Inv-loop μ-loop
-returns c = tt
-
 same-length-3 : tie.Need-same-length-3 Inv-loop μ-loop
 same-length-3 c = omega arith
 
+returns : tie.Need-returns Inv-loop μ-loop
+returns c = tt
+
 same-length-4 : tie.Need-same-length-4 Inv-loop μ-loop
 same-length-4 c = omega arith
+
+same-length-5 : tie.Need-same-length-5 Inv-loop μ-loop
+same-length-5 c = omega arith
+
+same-length-6 : tie.Need-same-length-6 Inv-loop μ-loop
+same-length-6 c = omega arith
 
 returns-2 : tie.Need-returns-2 Inv-loop μ-loop
 returns-2 c = tt
@@ -54,7 +57,6 @@ replay-spec =
     (tie.spec
     Inv-loop
     μ-loop
-    new-requires
     loop-holds
     turn-requires
     sub-turns
@@ -62,7 +64,9 @@ replay-spec =
     loop-again
     same-length
     same-length-2
-    returns
     same-length-3
+    returns
     same-length-4
+    same-length-5
+    same-length-6
     returns-2)

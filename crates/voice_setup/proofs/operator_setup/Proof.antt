@@ -2,7 +2,7 @@
 -- Assumes nothing.
 use borrow.Author.Needs.{needs}
 use native.Mathlib.Omega.{arith}
-use Rattle.dx_units.proofs.Conversions.{level-at-most-127}
+use Rattle.conversions.proofs.Conversions.{level-at-most-127}
 use Rattle.voice_setup.proofs.Operators.{limits, set-up}
 use Rattle.voice_setup.proofs.operator_setup.Statement.{statement}
 use Rattle.voice_setup.proofs.operator_setup.Tie as tie

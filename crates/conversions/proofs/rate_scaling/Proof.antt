@@ -1,0 +1,20 @@
+-- `conversions::rate_scaling` meets its contract. Assumes nothing.
+use lib.Ieee.{ofBits}
+use Rattle.numbers.specs.F32.{decimal}
+use Rattle.conversions.specs.Units.{rateScaling}
+use borrow.Author.Needs.{needs}
+use Rattle.conversions.proofs.rate_scaling.Statement.{statement}
+use Rattle.conversions.proofs.rate_scaling.Tie as tie
+
+int-to-float-pow-2-fast : tie.Need-int-to-float-pow-2-fast
+int-to-float-pow-2-fast c = search needs
+
+pow-2-fast-requires : tie.Need-pow-2-fast-requires
+pow-2-fast-requires c κs = search needs
+
+returns : tie.Need-returns
+unfolding rateScaling decimal ofBits
+returns c = c .pow-2-fast .ensures
+
+pub rate-scaling-spec : {M : Type 1} → statement M
+rate-scaling-spec = tie.close (tie.spec int-to-float-pow-2-fast pow-2-fast-requires returns)
