@@ -41,6 +41,7 @@ unsafe extern "C" {
         out: *mut f32,
         len: usize,
     ) -> u32;
+    fn bench_read(bytes: *const u8, len: usize) -> u8;
     fn bench_unpack(bytes: *const u8, len: usize, times: usize) -> u8;
     fn bench_pack(bytes: *const u8, len: usize, times: usize) -> u8;
     fn bench_check(bytes: *const u8, len: usize, times: usize) -> u8;
@@ -229,6 +230,26 @@ fn clean(data: &[u8]) -> Vec<u8> {
     packed
 }
 
+/// Patches unpacked one by one, every field of each read.
+fn readings() {
+    let data = bytes(128 * 64);
+    let each = || data.chunks(128).map(black_box);
+    let (mut ours, mut rust) = (0, 0);
+    race(
+        "unpacking, every field read: ns a patch",
+        64.0,
+        || ours = each().fold(0u8, |all, chunk| all.rotate_left(1) ^ unsafe { bench_read(chunk.as_ptr(), chunk.len()) }),
+        || {
+            rust = each().fold(0u8, |all, chunk| {
+                let mut patch = Patch::new();
+                patch.unpack(chunk);
+                all.rotate_left(1) ^ mixed_patch(&patch)
+            })
+        },
+    );
+    assert_eq!(ours, rust, "the two sides differ");
+}
+
 fn patches() {
     const TIMES: usize = 8000;
     let data = clean(&bytes(1024));
@@ -384,6 +405,7 @@ fn main() {
     for samples in [24, 64, 256, 1024] {
         operators(samples);
     }
+    readings();
     patches();
     bank();
     rows();

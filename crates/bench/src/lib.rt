@@ -272,6 +272,14 @@ fn checked_in_turn(patches: [Patch; 8], times: usize) -> u8 {
     all
 }
 
+// One patch unpacked; every field of it.
+#[no_mangle]
+pub extern "C" fn bench_read(bytes: &[u8]) -> u8 {
+    let read = patch::unpack(Patch::new(), bytes);
+    let p = read.patch;
+    mixed_patch(p)
+}
+
 // Patches unpacked; every field of one.
 #[no_mangle]
 pub extern "C" fn bench_unpack(bytes: &[u8], times: usize) -> u8 {

@@ -1,14 +1,13 @@
 -- There and back: unpacking what was packed gives the patch, and packing what was unpacked gives the bytes
 -- exactly if they were clean. Assumes nothing.
 use mathlib.Core.Path.{_≡_, refl, sym, _∙_, ap, ap₂}
-use mathlib.Core.Bool.{Bool, true, false, cond, _&&_, true≢false}
+use mathlib.Core.Bool.{true, _&&_}
 use mathlib.Core.List.{List, [], _∷_, _++_, map}
 use Prim.Native.Nat.{ℕ, zero, suc, _+_, _*_, _/_, _%_, _^_, _<_, _≤_, min}
-use native.Mathlib.Nat.{zero-add, add-zero, mod-eq-of-lt, mod-lt}
+use native.Mathlib.Nat.{zero-add}
 use native.Mathlib.Omega.{arith}
-use borrow.Author.Tests.{eqb-true, leb-true, le-leb, le-ltb, ltb-true}
-use lib.Dec.{eqb, leb, ltb}
-use lib.Pow.{pow-pos}
+use borrow.Author.Tests.{eqb-true, le-ltb, ltb-true}
+use lib.Dec.{eqb, ltb}
 use lib.ListN.{length, getD, take, length-take}
 use lib.Seq.{ext-getD, getD-take, length-take-le}
 use Rattle.patch.specs.declared.Envelope.{Envelope}
@@ -22,7 +21,7 @@ use Rattle.packer.specs.Packing.{byteOf, packed, packOf, Clean}
 use Rattle.patch.proofs.Positions.{patch-with}
 use Rattle.patch.proofs.Reading.{numbers-read, numbers-low, unpacked-fits}
 use Rattle.patch.proofs.Each.{every, Each, and-both, each, both-each, map-each, each-within, within-each}
-use Rattle.packer.proofs.Tables.{length-bytes, getD-bytes, same-byte, above, stacked, Back, read-back}
+use Rattle.packer.proofs.Tables.{length-bytes, getD-bytes, fits-width, same-byte, above, stacked, Back, read-back}
 
 -- what the table has to be: fields stacked in their bytes, within 128 bytes, their largest numbers within their widths
 table-stacked : stacked fieldOf layout ≡ true
@@ -73,10 +72,6 @@ unfolding patchWith numberOf modulationsWith lfoNumber nameWith firsts
 patch-numbers p h =
     let o : (k : ℕ) → k < 6 → operatorWith (operatorNumber (operatorAt (p .op) k)) ≡ operatorAt (p .op) k = λ k b. operator-numbers (operatorAt (p .op) k) (h .envelopes k b) in
     rw (o 0 (omega arith), o 1 (omega arith), o 2 (omega arith), o 3 (omega arith), o 4 (omega arith), o 5 (omega arith), operators-listed (p .op) (h .operators), envelope-numbers (p .«pitch_envelope») (h .pitch), listed 0 10 (p .name) (h .letters))
-
--- a number that is at most its field's largest is written whole
-fits-width : (x : ℕ) (f : Field) → ltb (f .largest) (2 ^ f .width) ≡ true → x ≤ f .largest → x % 2 ^ f .width ≡ x
-fits-width x f t h = mod-eq-of-lt (omega (arith, ltb-true (f .largest) (2 ^ f .width) t))
 
 -- the packed byte k
 packed-byte : (p : Patch) (k : ℕ) → k < 128 → getD (packed p) k 0 ≡ byteOf fieldOf (numberOf p) layout k

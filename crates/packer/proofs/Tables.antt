@@ -3,14 +3,15 @@ use mathlib.Core.Path.{_≡_, refl, sym, _∙_, ap, ap₂}
 use mathlib.Core.Bool.{Bool, true, false, cond, _&&_, true≢false}
 use mathlib.Core.List.{List, [], _∷_, _++_, map}
 use Prim.Native.Nat.{ℕ, zero, suc, _+_, _-_, _*_, _/_, _%_, _^_, _<_, _≤_}
-use native.Mathlib.Nat.{add-zero, zero-add, suc-add, add-suc, zero-mul, add-assoc, add-comm, add-mul, mul-assoc, mul-comm, mod-lt, mod-mod, mul-div-cancel, add-mul-mod-self-right}
+use native.Mathlib.Nat.{add-zero, zero-add, suc-add, add-suc, zero-mul, add-assoc, add-comm, add-mul, mul-assoc, mod-eq-of-lt, mod-lt, mod-mod, mul-div-cancel, add-mul-mod-self-right}
 use native.Mathlib.Omega.{arith}
-use borrow.Author.Tests.{eqb-true, eqb-false, eq-eqb, ne-eqb, leb-true, le-leb, lt-leb, le-ltb}
+use borrow.Author.Tests.{eqb-true, eqb-false, eq-eqb, ne-eqb, leb-true, lt-leb, le-ltb, ltb-true}
 use lib.Dec.{eqb, leb, ltb}
-use lib.ListN.{length, getD, drop}
+use lib.ListN.{length, getD}
 use lib.Pow.{pow-pos, pow-add, shl-lt, shr-shr, high}
 use Rattle.patch.specs.Layout.{Field, later}
-use Rattle.patch.proofs.Each.{every, Each, and-both, each, both-each}
+use Rattle.patch.specs.Packed.{within}
+use Rattle.patch.proofs.Each.{every, Each, and-both, each, both-each, each-within}
 use Rattle.packer.specs.Packing.{placed, byteOf, bytesOf}
 
 module _ {N : Type 0} (field : N → Field) (g : N → ℕ) where
@@ -68,6 +69,35 @@ module _ {N : Type 0} (field : N → Field) (g : N → ℕ) where
         ap (bytesOf field g (xs ++ ys) k) (zero-add b) ∙ right-bytes b k (omega arith) ∙ ap (λ (x : ℕ). bytesOf field g ys x b) q
     bytes-append (suc a) b k e =
         ap (bytesOf field g (xs ++ ys) k) (suc-add a b) ∙ ap₂ _∷_ (left-byte k (omega arith)) (bytes-append a b (suc k) (omega arith))
+
+-- a number that is at most its field's largest is written whole
+pub fits-width : (x : ℕ) (f : Field) → ltb (f .largest) (2 ^ f .width) ≡ true → x ≤ f .largest → x % 2 ^ f .width ≡ x
+fits-width x f t h = mod-eq-of-lt (omega (arith, ltb-true (f .largest) (2 ^ f .width) t))
+
+module _ {N : Type 0} (field : N → Field) (g : N → ℕ) where
+  -- byte k with the numbers as they are, each at its bits and none cut to its width; and count such bytes
+  unfoldable pub sumOf : List N → ℕ → ℕ
+  sumOf [] k = 0
+  sumOf (n ∷ ns) k = cond (eqb (field n .byte) k) (g n * 2 ^ field n .bit + sumOf ns k) (sumOf ns k)
+
+  unfoldable pub sumsOf : List N → ℕ → ℕ → List ℕ
+  sumsOf ns k zero = []
+  sumsOf ns k (suc count) = sumOf ns k ∷ sumsOf ns (suc k) count
+
+  whole-byte : (ns : List N) (k : ℕ) → Each (λ n. g n % 2 ^ field n .width ≡ g n) ns → byteOf field g ns k ≡ sumOf ns k
+  unfolding byteOf placed sumOf
+  whole-byte [] k es = refl
+  whole-byte (n ∷ ns) k (e, es) = rw (e, whole-byte ns k es)
+
+  -- numbers that fit need no cutting
+  module _ (ns : List N) (fits : within field g ns ≡ true) (wide : every (λ n. ltb (field n .largest) (2 ^ field n .width)) ns ≡ true) where
+    whole-numbers : Each (λ n. g n % 2 ^ field n .width ≡ g n) ns
+    whole-numbers = both-each (λ n t h. fits-width (g n) (field n) t h) ns (each (λ n. ltb (field n .largest) (2 ^ field n .width)) ns wide) (each-within field g ns fits)
+
+    pub whole-bytes : (k count : ℕ) → bytesOf field g ns k count ≡ sumsOf ns k count
+    unfolding bytesOf sumsOf
+    whole-bytes k zero = refl
+    whole-bytes k (suc count) = ap₂ _∷_ (whole-byte ns k whole-numbers) (whole-bytes (suc k) count)
 
 -- equal numbers give equal bytes
 pub same-byte : {N : Type 0} (field : N → Field) (f h : N → ℕ) (ns : List N) (k : ℕ) → Each (λ n. f n ≡ h n) ns → byteOf field f ns k ≡ byteOf field h ns k

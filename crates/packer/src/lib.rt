@@ -3,9 +3,11 @@
 use patch::Operator;
 use patch::Patch;
 ghost use mathlib.Core.Path.{_≡_};
+ghost use mathlib.Core.Bool.{true};
 ghost use Prim.Native.Nat.{_+_, _≤_};
 ghost use lib.ListN.{length};
 ghost use lib.Seq.{paste};
+ghost use Rattle.patch.specs.Packed.{operatorFits, patchFits};
 ghost use Rattle.packer.specs.Packing.{operatorBytes, sharedBytes, packed, packOf};
 
 // What packing gives: the number, and the bytes or, refused, zeros.
@@ -14,8 +16,9 @@ pub struct Packed {
     pub bytes: [u8; 128],
 }
 
-// An operator's 17 bytes, unused bits clear.
+// The 17 bytes of an operator that fits: its numbers as they are, each lies within its field's bits.
 fn operator_bytes(o: Operator) -> [u8; 17]
+    requires { ⌜ operatorFits o ≡ true ⌝ }
     ensures { λ r. ⌜ r ≡ operatorBytes o ⌝ }
 {
     let e = o.envelope;
@@ -23,28 +26,29 @@ fn operator_bytes(o: Operator) -> [u8; 17]
     let level = e.level;
     let k = o.keyboard_scaling;
     [
-        rate[0] % 128,
-        rate[1] % 128,
-        rate[2] % 128,
-        rate[3] % 128,
-        level[0] % 128,
-        level[1] % 128,
-        level[2] % 128,
-        level[3] % 128,
-        k.break_point % 128,
-        k.left_depth % 128,
-        k.right_depth % 128,
-        k.left_curve % 4 + k.right_curve % 4 * 4,
-        o.rate_scaling % 8 + o.detune % 16 * 8,
-        o.amp_mod_sensitivity % 4 + o.velocity_sensitivity % 8 * 4,
-        o.level % 128,
-        o.mode % 2 + o.coarse % 32 * 2,
-        o.fine % 128,
+        rate[0],
+        rate[1],
+        rate[2],
+        rate[3],
+        level[0],
+        level[1],
+        level[2],
+        level[3],
+        k.break_point,
+        k.left_depth,
+        k.right_depth,
+        k.left_curve + k.right_curve * 4,
+        o.rate_scaling + o.detune * 8,
+        o.amp_mod_sensitivity + o.velocity_sensitivity * 4,
+        o.level,
+        o.mode + o.coarse * 2,
+        o.fine,
     ]
 }
 
-// The 26 bytes behind the operators.
+// The 26 bytes behind the operators, of a patch that fits.
 fn shared_bytes(p: Patch) -> [u8; 26]
+    requires { ⌜ patchFits p ≡ true ⌝ }
     ensures { λ r. ⌜ r ≡ sharedBytes p ⌝ }
 {
     let e = p.pitch_envelope;
@@ -53,32 +57,32 @@ fn shared_bytes(p: Patch) -> [u8; 26]
     let m = p.modulations;
     let name = p.name;
     [
-        rate[0] % 128,
-        rate[1] % 128,
-        rate[2] % 128,
-        rate[3] % 128,
-        level[0] % 128,
-        level[1] % 128,
-        level[2] % 128,
-        level[3] % 128,
-        p.algorithm % 32,
-        p.feedback % 8 + p.reset_phase % 2 * 8,
-        m.rate % 128,
-        m.delay % 128,
-        m.pitch_mod_depth % 128,
-        m.amp_mod_depth % 128,
-        m.reset_phase % 2 + m.waveform % 8 * 2 + m.pitch_mod_sensitivity % 16 * 16,
-        p.transpose % 128,
-        name[0] % 128,
-        name[1] % 128,
-        name[2] % 128,
-        name[3] % 128,
-        name[4] % 128,
-        name[5] % 128,
-        name[6] % 128,
-        name[7] % 128,
-        name[8] % 128,
-        name[9] % 128,
+        rate[0],
+        rate[1],
+        rate[2],
+        rate[3],
+        level[0],
+        level[1],
+        level[2],
+        level[3],
+        p.algorithm,
+        p.feedback + p.reset_phase * 8,
+        m.rate,
+        m.delay,
+        m.pitch_mod_depth,
+        m.amp_mod_depth,
+        m.reset_phase + m.waveform * 2 + m.pitch_mod_sensitivity * 16,
+        p.transpose,
+        name[0],
+        name[1],
+        name[2],
+        name[3],
+        name[4],
+        name[5],
+        name[6],
+        name[7],
+        name[8],
+        name[9],
     ]
 }
 
@@ -95,7 +99,7 @@ fn put(out: &mut [u8], at: usize, b: &[u8])
 }
 
 fn put_operator(out: &mut [u8; 128], at: usize, o: Operator)
-    requires { ⌜ at ≤ 111 ⌝ }
+    requires { ⌜ (at ≤ 111) × (operatorFits o ≡ true) ⌝ }
     ensures { λ _. ⌜ now (out .exit) ≡ paste (now (out .entry)) at (operatorBytes o) 17 ⌝ }
 {
     let b = operator_bytes(o);
@@ -103,6 +107,7 @@ fn put_operator(out: &mut [u8; 128], at: usize, o: Operator)
 }
 
 fn put_shared(out: &mut [u8; 128], p: Patch)
+    requires { ⌜ patchFits p ≡ true ⌝ }
     ensures { λ _. ⌜ now (out .exit) ≡ paste (now (out .entry)) 102 (sharedBytes p) 26 ⌝ }
 {
     let b = shared_bytes(p);
@@ -110,6 +115,7 @@ fn put_shared(out: &mut [u8; 128], p: Patch)
 }
 
 fn pack_whole(p: Patch) -> [u8; 128]
+    requires { ⌜ patchFits p ≡ true ⌝ }
     ensures { λ r. ⌜ r ≡ packed p ⌝ }
 {
     let op = p.op;
@@ -123,14 +129,12 @@ fn pack_whole(p: Patch) -> [u8; 128]
     out
 }
 
-// The 128 bytes of a patch, unused bits clear; 6 and zeros for a patch that does not fit. They are packed before it is known whether they
-// are wanted: bytes that only one branch has would all have to wait for it in registers.
+// The 128 bytes of a patch, unused bits clear; 6 and zeros for a patch that does not fit. What fits needs no masks.
 pub fn pack(patch: Patch) -> Packed
     ensures { λ r. ⌜ r ≡ packOf patch ⌝ }
 {
-    let fits = limits::patch_fits(patch);
-    let bytes = pack_whole(patch);
-    if fits {
+    if limits::patch_fits(patch) {
+        let bytes = pack_whole(patch);
         return Packed { number: 0, bytes };
     }
     let bytes = [0u8; 128];

@@ -4,7 +4,7 @@ use Prim.Native.Nat.{_-_, _≤_}
 use native.Mathlib.Omega.{arith}
 use borrow.Author.Needs.{needs}
 use Rattle.patch.specs.Form.{operatorAt, noOperator, scalingWith}
-use Rattle.packer.proofs.Bytes.{firstBlocks, next-block, pasted}
+use Rattle.packer.proofs.Bytes.{operator-fits, firstBlocks, next-block, pasted}
 use Rattle.packer.proofs.pack_whole.Statement.{statement}
 use Rattle.packer.proofs.pack_whole.Tie as tie
 
@@ -28,7 +28,8 @@ array-copy-out-put-operator : tie.Need-array-copy-out-put-operator Inv-loop μ-l
 array-copy-out-put-operator c = omega arith
 
 put-operator-requires : tie.Need-put-operator-requires Inv-loop μ-loop
-put-operator-requires c κs = search needs
+unfolding operatorAt noOperator scalingWith
+put-operator-requires c κs = (omega arith, operator-fits _ (c .before .before .before .before .before .pre) (c .before .before .before .loop .i) (omega arith))
 
 add-i : tie.Need-add-i Inv-loop μ-loop
 add-i c = omega arith
