@@ -4,11 +4,13 @@
 mod algorithms;
 mod answer;
 mod compare;
+mod corpus;
 mod draw;
 mod ends;
 mod entries;
 mod envelope;
 mod forms;
+mod identify;
 mod lfo;
 mod numbers;
 mod patch;
@@ -29,6 +31,10 @@ const USAGE: &str = "\
 oracle answer                                   a script on standard input, the Rust's answers on standard output
 oracle generate [OPTIONS] [--bytes N]           a script on standard output, of at most N bytes
 oracle compare [OPTIONS] [--folder DIR] -- PROGRAM [WORDS]   the Rust against PROGRAM
+oracle corpus                                   the bank whose identifiers the gate holds
+oracle identifiers                              a patch or a bank on standard input, the Rust's identifiers
+oracle identify [OPTIONS] [--folder DIR] -- PROGRAM [WORDS]  the Rust's identifiers against PROGRAM's, of --calls patches
+oracle order [OPTIONS] -- PROGRAM [WORDS]       which identifiers move with the order of the patches
 oracle entries                                  the table of entries
 oracle smoke                                    the assembled Rust and the table of entries are as expected
 OPTIONS: --seed N (1)   --calls N (1000000)   --entries LIST (all: names, hex numbers or groups, comma separated)
@@ -114,6 +120,10 @@ fn run() -> Result<bool, String> {
         "entries" => written(entries::print()),
         "smoke" => Ok(smoke::smoke()),
         "compare" if !options.program.is_empty() => compare::compare(&options),
+        "corpus" => written(io::stdout().write_all(&corpus::corpus())),
+        "identifiers" => written(identify::answer()),
+        "identify" if !options.program.is_empty() => identify::compare(&options),
+        "order" if !options.program.is_empty() => identify::order(&options),
         _ => Err(format!("usage:\n{USAGE}")),
     }
 }

@@ -113,7 +113,7 @@ pub fn check(x: &Patch) -> u8 {
 }
 
 /// The 128 bytes of a patch that 6 accepts.
-fn pack(x: &Patch) -> [u8; 128] {
+pub fn pack(x: &Patch) -> [u8; 128] {
     let mut bytes = [0; 128];
     for (op, to) in x.op.iter().zip(bytes.chunks_exact_mut(17)) {
         let scaling = &op.keyboard_scaling;
@@ -147,7 +147,7 @@ fn checksum(bytes: &[u8]) -> u8 {
 }
 
 /// 10 wrong length, 11 wrong frame byte, 12 data byte above 127, 13 wrong checksum.
-fn validate(dump: &[u8]) -> u8 {
+pub fn validate(dump: &[u8]) -> u8 {
     if dump.len() != 4104 {
         return 10;
     }
@@ -221,13 +221,19 @@ fn every_packed(k: u64, draw: &mut Draw) {
     draw.bytes(&bytes);
 }
 
-/// A sound dump.
-fn sound(draw: &mut Draw) -> Vec<u8> {
+/// The sound dump of 4,096 data bytes.
+pub fn bank(data: &[u8]) -> Vec<u8> {
     let mut dump = FRAME.to_vec();
-    dump.extend((0..512).flat_map(|_| (draw.random() & 0x7f7f_7f7f_7f7f_7f7f).to_le_bytes()));
-    dump.push(checksum(&dump[6..]));
+    dump.extend(data);
+    dump.push(checksum(data));
     dump.push(0xf7);
     dump
+}
+
+/// A sound dump.
+fn sound(draw: &mut Draw) -> Vec<u8> {
+    let data: Vec<u8> = (0..512).flat_map(|_| (draw.random() & 0x7f7f_7f7f_7f7f_7f7f).to_le_bytes()).collect();
+    bank(&data)
 }
 
 /// A dump: short, or once in `often` of the right length or nearly, sound or with one byte damaged.

@@ -1,0 +1,3 @@
+-- the laws that belong to no one function
+pub mod Steps
+pub mod Refused

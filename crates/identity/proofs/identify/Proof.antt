@@ -1,0 +1,38 @@
+-- `identity::identify` meets its contract. Assumes nothing.
+use Rattle.identity.proofs.Steps.{not-identified, identified}
+use borrow.Author.Needs.{needs}
+use Rattle.identity.proofs.identify.Statement.{statement}
+use Rattle.identity.proofs.identify.Tie as tie
+
+prepare-requires : tie.Need-prepare-requires
+prepare-requires c κs = search needs
+
+returns : tie.Need-returns
+returns c = not-identified _ _ (c .before .before .prepare .ensures) (c .if1 .taken)
+
+lut-sine-requires : tie.Need-lut-sine-requires
+lut-sine-requires c κs = search needs
+
+lut-pitch-ratio-high-requires : tie.Need-lut-pitch-ratio-high-requires
+lut-pitch-ratio-high-requires c κs = search needs
+
+lut-pitch-ratio-low-requires : tie.Need-lut-pitch-ratio-low-requires
+lut-pitch-ratio-low-requires c κs = search needs
+
+play-notes-requires : tie.Need-play-notes-requires
+play-notes-requires c κs = search needs
+
+returns-2 : tie.Need-returns-2
+returns-2 c = identified _ _ (c .before .before .before .before .before .before .before .before .before .prepare .ensures) (c .before .before .before .before .before .before .before .if1 .left) (c .before .before .before .before .before .before .lut-sine .ensures) (c .before .before .before .before .before .lut-pitch-ratio-high .ensures) (c .before .before .before .before .lut-pitch-ratio-low .ensures) (c .play-notes .ensures)
+
+pub identify-spec : {M : Type 1} → statement M
+identify-spec =
+    tie.close
+    (tie.spec
+    prepare-requires
+    returns
+    lut-sine-requires
+    lut-pitch-ratio-high-requires
+    lut-pitch-ratio-low-requires
+    play-notes-requires
+    returns-2)
