@@ -1,5 +1,9 @@
 //! Times the proved code and the original Rust on the same work, and holds their results to be equal.
 
+#[path = "../../../oracle/driver/src/identifier.rs"]
+#[allow(dead_code)]
+mod identifier;
+
 use plaits::fm::algorithms::{Algorithms, OPCODES_6_32};
 use plaits::fm::operator::{self as fm, RenderFn, render_operators};
 use plaits::fm::patch::{Envelope, Operator, Patch};
@@ -47,6 +51,7 @@ unsafe extern "C" {
     fn bench_check(bytes: *const u8, len: usize, times: usize) -> u8;
     fn bench_again(bytes: *const u8, len: usize, out: *mut [u8; 128]) -> u8;
     fn bench_voice(bytes: *const u8, len: usize, note: f32, blocks: u32, block: *mut f32, size: usize) -> u32;
+    fn bench_identify(bytes: *const u8, len: usize) -> u64;
     fn bench_validate(dump: *const u8, len: usize) -> u8;
     fn bench_compile(a: u8, b: u8, c: u8, d: u8, e: u8, f: u8) -> u8;
 }
@@ -397,6 +402,32 @@ fn many_patches() {
     );
 }
 
+/// Identifiers of patches whose LFO is accepted, one after the other; every one is held equal.
+fn identifiers(count: usize) {
+    let table = identifier::table();
+    let mut data = bytes(128 * count);
+    data.chunks_mut(128).for_each(|chunk| chunk[116] %= 128);
+    let (mut ours, mut rust) = (0.0, 0.0);
+    for (k, chunk) in data.chunks(128).enumerate() {
+        let start = Instant::now();
+        let x = unsafe { bench_identify(chunk.as_ptr(), 128) };
+        ours += start.elapsed().as_secs_f64();
+        let start = Instant::now();
+        let mut patch = Patch::new();
+        patch.unpack(chunk);
+        let y = identifier::identifier(&table, &patch, identifier::Hidden::Set);
+        rust += start.elapsed().as_secs_f64();
+        assert_eq!(x, y, "the two sides differ at patch {k}");
+    }
+    let rate = |seconds: f64| count as f64 / seconds;
+    println!(
+        "| {count} identifiers: patches a second (here more is better) | {:.0} | {:.0} | {:.2} |",
+        rate(ours),
+        rate(rust),
+        ours / rust
+    );
+}
+
 fn main() {
     println!("| work | ours | the Rust | ratio |\n|---|---|---|---|");
     for samples in [24, 64, 256, 1024] {
@@ -413,4 +444,5 @@ fn main() {
         voices(samples);
     }
     many_patches();
+    identifiers(40_000);
 }

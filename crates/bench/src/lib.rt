@@ -399,3 +399,12 @@ pub extern "C" fn bench_voice(bytes: &[u8], note: f32, blocks: u32, block: &mut 
     let clean = blank.voice;
     sounded(&lut, &high, &low, clean, p, blocks, block)
 }
+
+// The identifier of a packed patch.
+#[no_mangle]
+pub extern "C" fn bench_identify(bytes: &[u8]) -> u64 {
+    let read = patch::unpack(Patch::new(), bytes);
+    let p = read.patch;
+    let done = identity::identify(p);
+    done.identifier
+}

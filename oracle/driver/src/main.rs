@@ -10,6 +10,7 @@ mod ends;
 mod entries;
 mod envelope;
 mod forms;
+mod identifier;
 mod identify;
 mod lfo;
 mod numbers;
