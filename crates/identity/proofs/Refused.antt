@@ -24,6 +24,7 @@ use Rattle.lfo.specs.Answers as lfo
 use Rattle.voice.specs.declared.Voice.{Voice}
 use Rattle.voice.specs.Voice.{voiceWith, freshVoice}
 use Rattle.voice.specs.Answers as voice
+use Rattle.limits.specs.Ranges.{sampleRateFits}
 use Rattle.voice_levels.specs.Levels.{allStages}
 use Rattle.identity.specs.Identity.{readied, identityOf}
 
@@ -70,15 +71,15 @@ algorithm-of p t =
     omega arith
 
 voice-fresh : voice.stateFits (voice.initAnswer 6 (decimal 48000 0) .voice) ≡ true
-unfolding voice.stateFits voice.initAnswer voice.sampleRateFits decimal le lt counted freshVoice voiceWith allStages initialised
+unfolding voice.stateFits voice.initAnswer sampleRateFits decimal le lt counted freshVoice voiceWith allStages initialised
 voice-fresh = refl
 
 voice-six : voice.initAnswer 6 (decimal 48000 0) .voice .operators ≡ 6
-unfolding voice.initAnswer voice.sampleRateFits decimal le lt counted freshVoice voiceWith
+unfolding voice.initAnswer sampleRateFits decimal le lt counted freshVoice voiceWith
 voice-six = refl
 
 lfo-fresh : lfo.stateFits (lfo.initAnswer (decimal 48000 0) .lfo) ≡ true
-unfolding lfo.stateFits lfo.initAnswer lfo.sampleRateFits lfo.fromZero decimal le lt freshLfo
+unfolding lfo.stateFits lfo.initAnswer sampleRateFits lfo.fromZero decimal le lt freshLfo
 lfo-fresh = refl
 
 module _ (v : Voice) (p : Patch) (state : voice.stateFits v ≡ true) where

@@ -21,7 +21,8 @@ use Rattle.patch.specs.declared.ModulationParameters.{ModulationParameters}
 use Rattle.lfo.specs.declared.Lfo.{Lfo}
 use Rattle.lfo.specs.declared.Moved.{Moved}
 use Rattle.lfo.specs.Lfo.{movedTo, valued, adjusted, restarted, wrapped, stepped, scrubbed, settled}
-use Rattle.lfo.specs.Answers.{sampleRateFits, fromZero, stateFits, stepFits, scrubFits, notMoved, stepAnswer, scrubAnswer}
+use Rattle.limits.specs.Ranges.{sampleRateFits}
+use Rattle.lfo.specs.Answers.{fromZero, stateFits, stepFits, scrubFits, notMoved, stepAnswer, scrubAnswer}
 use Rattle.lfo.specs.Played.{oneHzFits}
 use Rattle.lfo.proofs.Phases.{FromZero, plus, is-from-zero, under-from-zero, from-zero-le, from-zero-finite, Part, is-part, part-from-zero, part-below-one, parts-add, sum-wraps, product-at-least, below-power, when-finite, past-whole}
 

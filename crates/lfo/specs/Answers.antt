@@ -7,6 +7,7 @@ use lib.Ieee.Scale.{finite}
 use Rattle.numbers.specs.F32.{_⊗_, _⊘_, decimal}
 use Rattle.patch.specs.declared.ModulationParameters.{ModulationParameters}
 use Rattle.patch.specs.Packed.{modulationsFit}
+use Rattle.limits.specs.Ranges.{sampleRateFits}
 use Rattle.lfo.specs.declared.Lfo.{Lfo}
 use Rattle.lfo.specs.declared.Prepared.{Prepared}
 use Rattle.lfo.specs.declared.Moved.{Moved}
@@ -14,10 +15,6 @@ use Rattle.lfo.specs.declared.Read.{Read}
 use Rattle.lfo.specs.Lfo.{freshLfo, adjusted, restarted, stepped, scrubbed, settled, waveAt, rampOf, pitchModOf, ampModOf}
 
 -- ---- what is accepted
-
--- a sample rate from 8,000 to 192,000; a NaN is in no range (else 5)
-unfoldable pub sampleRateFits : Float → Bool
-sampleRateFits rate = le (decimal 8000 0) rate && le rate (decimal 192000 0)
 
 -- finite and at least 0, as -0 is
 unfoldable pub fromZero : Float → Bool

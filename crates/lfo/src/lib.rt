@@ -8,7 +8,7 @@ ghost use Rattle.sine.specs.Table.{lutSine};
 ghost use Rattle.lfo.specs.Lfo.{waveformOf, freshLfo, adjusted, movedTo, valued, restarted, triangleWave, squareWave, sineWave};
 ghost use Rattle.lfo.specs.Lfo.{waveAt, drawnIf, atMostOne, delayStepped, delayScrubbed, wrapped, stepped};
 ghost use Rattle.lfo.specs.Lfo.{wholeChanged, scrubbed, settled, rampOf};
-ghost use Rattle.lfo.specs.Answers.{sampleRateFits, fromZero, stateFits, stepFits, scrubFits};
+ghost use Rattle.lfo.specs.Answers.{fromZero, stateFits, stepFits, scrubFits};
 ghost use Rattle.lfo.specs.Answers.{initAnswer, setAnswer, resetAnswer, stepAnswer, scrubAnswer, readAnswer};
 ghost use Rattle.lfo.specs.Answers.{valueAnswer, delayRampAnswer, pitchModAnswer, ampModAnswer};
 
@@ -73,7 +73,7 @@ pub struct Read {
 pub fn init(sample_rate: f32) -> Prepared
     ensures { λ r. ⌜ r ≡ initAnswer «sample_rate» ⌝ }
 {
-    if sample_rate_fits(sample_rate) {
+    if limits::sample_rate_fits(sample_rate) {
         return Prepared {
             number: 0,
             lfo: fresh(1.0 / sample_rate, 0.1),
@@ -250,13 +250,6 @@ fn reading(lfo: Lfo, value: f32) -> Read
         number: 9,
         value: 0.0,
     }
-}
-
-// A NaN is in no range.
-fn sample_rate_fits(sample_rate: f32) -> bool
-    ensures { λ r. ⌜ r ≡ sampleRateFits «sample_rate» ⌝ }
-{
-    (sample_rate >= 8000.0) & (sample_rate <= 192000.0)
 }
 
 // Finite and at least 0, as -0 is.

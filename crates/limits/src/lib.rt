@@ -1,10 +1,11 @@
-// The limits of a patch's fields, which a patch that was not unpacked may break. Each function is what `patch`'s specs/Packed derives from
-// the one table of its specs/Layout. Number given back: 6 a field above its largest number.
+// What is in reach. The limits of a patch's fields, which a patch that was not unpacked may break: each of these functions is what `patch`'s
+// specs/Packed derives from the one table of its specs/Layout. Number given back: 6 a field above its largest number. And the ranges of floats.
 use patch::KeyboardScaling;
 use patch::ModulationParameters;
 use patch::Operator;
 use patch::Patch;
 ghost use mathlib.Core.Path.{_≡_};
+ghost use Rattle.limits.specs.Ranges.{between, sampleRateFits};
 ghost use Rattle.patch.specs.Packed.{stagesFit, scalingFits, operatorFits, operatorsFit, modulationsFit, nameFits, patchFits, checkOf};
 
 // Whether the four rates or levels of an envelope are at most 99. They are lent: an array of four bytes that is handed over as a value comes
@@ -104,4 +105,18 @@ pub fn check(p: Patch) -> u8
     ensures { λ r. ⌜ r ≡ checkOf p ⌝ }
 {
     if patch_fits(p) { 0 } else { 6 }
+}
+
+// From low to high, ends allowed; no NaN.
+pub fn between(low: f32, high: f32, x: f32) -> bool
+    ensures { λ r. ⌜ r ≡ between low high x ⌝ }
+{
+    (low <= x) & (x <= high)
+}
+
+// Number 5.
+pub fn sample_rate_fits(rate: f32) -> bool
+    ensures { λ r. ⌜ r ≡ sampleRateFits rate ⌝ }
+{
+    between(8000.0, 192000.0, rate)
 }

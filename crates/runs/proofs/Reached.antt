@@ -16,7 +16,8 @@ use Rattle.lfo.specs.Answers as lfoAnswers
 use Rattle.lfo.specs.Played as lfo
 use Rattle.lfo.specs.Played.{Valid}
 use Rattle.lfo.proofs.Sequences.{init-valid, played-valid, none-is-nine}
-use Rattle.voice.specs.Answers.{sampleRateFits, initAnswer}
+use Rattle.limits.specs.Ranges.{sampleRateFits}
+use Rattle.voice.specs.Answers.{initAnswer}
 use Rattle.runs.specs.Run.{Call, Start, SetPatch, TakePatch, Render, StartLfo, OfLfo, State, withVoice, withLfo, stepOf, run, ending}
 use Rattle.runs.specs.Good.{Good, fresh, noneIsNine}
 use Rattle.runs.proofs.Voices.{NoNine, init-fits, init-keeps, set-patch-keeps, take-patch-keeps, render-keeps}
@@ -33,9 +34,9 @@ call-no-nine lut call l random v = and-l (not (eqb (lfo.numberOf (lfo.answerTo l
 
 lfo-init-keeps : (rate : Float) → NoNine (lfoAnswers.initAnswer rate .number) × (lfoAnswers.initAnswer rate .number ≡ 0 → Valid (lfoAnswers.initAnswer rate .lfo))
 unfolding lfoAnswers.initAnswer
-lfo-init-keeps rate = go (lfoAnswers.sampleRateFits rate) refl
+lfo-init-keeps rate = go (sampleRateFits rate) refl
   where
-    go : (b : Bool) → lfoAnswers.sampleRateFits rate ≡ b → NoNine (lfoAnswers.initAnswer rate .number) × (lfoAnswers.initAnswer rate .number ≡ 0 → Valid (lfoAnswers.initAnswer rate .lfo))
+    go : (b : Bool) → sampleRateFits rate ≡ b → NoNine (lfoAnswers.initAnswer rate .number) × (lfoAnswers.initAnswer rate .number ≡ 0 → Valid (lfoAnswers.initAnswer rate .lfo))
     go true e = (rw e tt, λ z. init-valid rate (subst T (sym e) tt))
     go false e = (rw e tt, λ z. absurd (let y = rw e at z in omega arith))
 
@@ -87,12 +88,12 @@ never-9 (call ∷ calls) s g =
     (never-9 calls (stepOf call s .state) (step-keeps-good s g call))
 
 -- a voice and an LFO that were started with sample rates that fit
-pub fresh-good : (operators : ℕ) (rate lfoRate : Float) (random : ℕ) → T (counted operators) → T (sampleRateFits rate) → T (lfoAnswers.sampleRateFits lfoRate)
+pub fresh-good : (operators : ℕ) (rate lfoRate : Float) (random : ℕ) → T (counted operators) → T (sampleRateFits rate) → T (sampleRateFits lfoRate)
     → Good (fresh operators rate lfoRate random)
 unfolding fresh
 fresh-good operators rate lfoRate random t u w = record { voice = init-fits operators rate t u; lfo = init-valid lfoRate w }
 
 -- from there on no run, accepted or refused, meets a 9
-pub fresh-never-9 : (operators : ℕ) (rate lfoRate : Float) (random : ℕ) → T (counted operators) → T (sampleRateFits rate) → T (lfoAnswers.sampleRateFits lfoRate)
+pub fresh-never-9 : (operators : ℕ) (rate lfoRate : Float) (random : ℕ) → T (counted operators) → T (sampleRateFits rate) → T (sampleRateFits lfoRate)
     → (calls : List Call) → T (noneIsNine (run calls (fresh operators rate lfoRate random)))
 fresh-never-9 operators rate lfoRate random t u w calls = never-9 calls (fresh operators rate lfoRate random) (fresh-good operators rate lfoRate random t u w)

@@ -42,7 +42,8 @@ use Rattle.voice_setup.specs.Setup.{headroomOf, operatorSetUp, setUpTo}
 use Rattle.voice_setup.specs.Setup as setup
 use Rattle.voice_levels.specs.Levels.{timingFor, followed, noteFrequency, frequencyBy, brightnessOf, scalingOf, amplitudeOf, leveled, leveledTo, allStages}
 use Rattle.voice_levels.specs.Levels as levels
-use Rattle.voice.specs.Answers.{sampleRateFits, patchSound, stateFits, blockFits, parametersFit, initAnswer, loaded, setPatchAnswer, renderAnswer}
+use Rattle.limits.specs.Ranges.{sampleRateFits}
+use Rattle.voice.specs.Answers.{patchSound, stateFits, blockFits, parametersFit, initAnswer, loaded, setPatchAnswer, renderAnswer}
 use Rattle.voice.specs.Block.{noteOn, struck, begun, entering, after, levelsFor, played}
 use Rattle.voice.specs.Block as block
 use Rattle.voice.specs.Voice.{voiceWith, freshVoice, withPatch, withSetup, setUp}

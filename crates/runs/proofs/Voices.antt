@@ -31,7 +31,8 @@ use Rattle.voice.specs.declared.Voice.{Voice}
 use Rattle.voice.specs.declared.VoiceParameters.{VoiceParameters}
 use Rattle.voice.specs.Voice.{voiceWith, freshVoice, noVoice, withPatch, withoutPatch, withSetup, setUp}
 use Rattle.voice.specs.Block.{begun, after, levelsFor, sounded}
-use Rattle.voice.specs.Answers.{sampleRateFits, patchSound, stateFits, blockFits, parametersFit, prepared, initAnswer, loaded, notLoaded, setPatchAnswer, takePatchAnswer, Answered, unsounded, sounding, renderAnswer}
+use Rattle.limits.specs.Ranges.{sampleRateFits}
+use Rattle.voice.specs.Answers.{patchSound, stateFits, blockFits, parametersFit, prepared, initAnswer, loaded, notLoaded, setPatchAnswer, takePatchAnswer, Answered, unsounded, sounding, renderAnswer}
 use Rattle.voice.proofs.States.{Fits, state-fits}
 
 -- a number that is no 9

@@ -4,10 +4,11 @@ use mathlib.Core.Bool.{Bool, true, cond, _&&_}
 use mathlib.Core.List.{List}
 use lib.Dec.{eqb, leb}
 use lib.ListN.{length}
-use lib.Ieee.{Float, le}
+use lib.Ieee.{Float}
 use Rattle.numbers.specs.F32.{decimal, minusDecimal}
 use Rattle.patch.specs.declared.Patch.{Patch}
 use Rattle.patch.specs.Packed.{patchFits}
+use Rattle.limits.specs.Ranges.{between, sampleRateFits}
 use Rattle.algorithms.specs.declared.Plan.{Plan}
 use Rattle.algorithms.specs.declared.Compiled.{Compiled}
 use Rattle.algorithms.specs.Plan.{counted, planned, samePlan}
@@ -22,14 +23,6 @@ use Rattle.voice.specs.Voice.{freshVoice, noVoice, withPatch, withoutPat
 use Rattle.voice.specs.Block.{Sounded, sounded}
 
 -- ---- what is refused
-
--- from low to high, ends allowed; no NaN
-abbrev pub between : Float → Float → Float → Bool
-between low high x = le low x && le x high
-
--- else 5
-unfoldable pub sampleRateFits : Float → Bool
-sampleRateFits rate = between (decimal 8000 0) (decimal 192000 0) rate
 
 -- a stored patch that 6 accepts, a row that does not get 3 or 4, and that row's plan
 unfoldable pub patchSound : ℕ → Patch → List ℕ → Plan → Bool

@@ -11,7 +11,7 @@ ghost use Rattle.units.specs.Tables.{lutPitchRatioHigh, lutPitchRatioLow};
 ghost use Rattle.voice_levels.specs.Levels.{allStages};
 ghost use Rattle.voice.specs.Voice.{voiceWith, withPatch, withoutPatch, withSetup, setUp};
 ghost use Rattle.voice.specs.Block.{noteOn, struck, begun, restarted, allRestarted, entering, levelsFor, after, sounded};
-ghost use Rattle.voice.specs.Answers.{between, sampleRateFits, patchSound, stateFits, blockFits, parametersFit};
+ghost use Rattle.voice.specs.Answers.{patchSound, stateFits, blockFits, parametersFit};
 ghost use Rattle.voice.specs.Answers.{initAnswer, loaded, setPatchAnswer, takePatchAnswer, renderAnswer};
 use algorithms::Compiled;
 use algorithms::Plan;
@@ -126,18 +126,6 @@ fn voice_with(operators: usize, sample_rate: f32, one_hz: f32, a0: f32) -> Voice
     }
 }
 
-fn within(low: f32, high: f32, x: f32) -> bool
-    ensures { λ r. ⌜ r ≡ between low high x ⌝ }
-{
-    (low <= x) & (x <= high)
-}
-
-fn sample_rate_fits(rate: f32) -> bool
-    ensures { λ r. ⌜ r ≡ sampleRateFits rate ⌝ }
-{
-    within(8000.0, 192000.0, rate)
-}
-
 fn stages_fit(e: [Envelope; 6]) -> bool
     ensures { λ r. ⌜ r ≡ allStages e ⌝ }
 {
@@ -198,12 +186,12 @@ fn block_fits(size: usize) -> bool
 fn parameters_fit(p: VoiceParameters) -> bool
     ensures { λ r. ⌜ r ≡ parametersFit p ⌝ }
 {
-    within(0.0, 127.0, p.note)
-        & within(0.0, 1.0, p.velocity)
-        & within(0.0, 1.0, p.brightness)
-        & within(0.0, 1.0, p.envelope_control)
-        & within(-4.0, 4.0, p.pitch_mod)
-        & within(0.0, 1.0, p.amp_mod)
+    limits::between(0.0, 127.0, p.note)
+        & limits::between(0.0, 1.0, p.velocity)
+        & limits::between(0.0, 1.0, p.brightness)
+        & limits::between(0.0, 1.0, p.envelope_control)
+        & limits::between(-4.0, 4.0, p.pitch_mod)
+        & limits::between(0.0, 1.0, p.amp_mod)
 }
 
 // A fresh voice of 4 or 6 operators.
@@ -216,7 +204,7 @@ pub fn init(operators: usize, sample_rate: f32) -> Prepared
             voice: voice_with(0, 0.0, 0.0, 0.0),
         };
     }
-    if !sample_rate_fits(sample_rate) {
+    if !limits::sample_rate_fits(sample_rate) {
         return Prepared {
             number: 5,
             voice: voice_with(0, 0.0, 0.0, 0.0),

@@ -7,36 +7,36 @@ use lib.Ieee.{ofBits, neg}
 use Rattle.voice.proofs.parameters_fit.Statement.{statement}
 use Rattle.voice.proofs.parameters_fit.Tie as tie
 
-within-requires : tie.Need-within-requires
-within-requires c κs = search needs
+between-requires : tie.Need-between-requires
+between-requires c κs = search needs
 
-within-requires-2 : tie.Need-within-requires-2
-within-requires-2 c κs = search needs
+between-requires-2 : tie.Need-between-requires-2
+between-requires-2 c κs = search needs
 
-within-requires-3 : tie.Need-within-requires-3
-within-requires-3 c κs = search needs
+between-requires-3 : tie.Need-between-requires-3
+between-requires-3 c κs = search needs
 
-within-requires-4 : tie.Need-within-requires-4
-within-requires-4 c κs = search needs
+between-requires-4 : tie.Need-between-requires-4
+between-requires-4 c κs = search needs
 
-within-requires-5 : tie.Need-within-requires-5
-within-requires-5 c κs = search needs
+between-requires-5 : tie.Need-between-requires-5
+between-requires-5 c κs = search needs
 
-within-requires-6 : tie.Need-within-requires-6
-within-requires-6 c κs = search needs
+between-requires-6 : tie.Need-between-requires-6
+between-requires-6 c κs = search needs
 
 returns : tie.Need-returns
 unfolding parametersFit decimal minusDecimal ofBits neg
-returns c = rw (c .within6 .ensures, c .before .within5 .ensures, c .before .before .within4 .ensures, c .before .before .before .within3 .ensures, c .before .before .before .before .within2 .ensures, c .before .before .before .before .before .within .ensures) refl
+returns c = rw (c .between6 .ensures, c .before .between5 .ensures, c .before .before .between4 .ensures, c .before .before .before .between3 .ensures, c .before .before .before .before .between2 .ensures, c .before .before .before .before .before .between .ensures) refl
 
 pub parameters-fit-spec : {M : Type 1} → statement M
 parameters-fit-spec =
     tie.close
     (tie.spec
-    within-requires
-    within-requires-2
-    within-requires-3
-    within-requires-4
-    within-requires-5
-    within-requires-6
+    between-requires
+    between-requires-2
+    between-requires-3
+    between-requires-4
+    between-requires-5
+    between-requires-6
     returns)
