@@ -1,5 +1,5 @@
 -- The orders of `pow_2_fast`, and what its calls give, over plain variables. Assumes nothing.
-use mathlib.Core.Path.{_≡_, refl}
+use mathlib.Core.Path.{_≡_, refl, ap, _∙_}
 use mathlib.Core.Bool.{true, false}
 use Prim.Native.Nat.{ℕ, _^_, _<_}
 use native.Mathlib.Omega.{arith}
@@ -14,9 +14,12 @@ use Rattle.numbers.specs.Words.{sum32, shifted32, differenceSigned}
 use Rattle.conversions.specs.Pow.{isOrder, wholeBelow, mantissaBits, pow2Fast}
 
 -- the code compares an order's bits
+pub the-order : (k : ℕ) (z : ℤ) → k < 2 ^ 31 → mag z < 2 ^ 31 → ofZ w32 z ≡ k → z ≡ pos k
+the-order k (pos n) l h e = ap pos e
+the-order k (negsuc n) l h e = let q : ⊥ = omega arith in absurd q
+
 pub is-order : (k : ℕ) (z : ℤ) → k < 2 ^ 31 → mag z < 2 ^ 31 → ofZ w32 z ≡ k → isOrder k z ≡ true
-is-order k (pos n) l h e = eq-eqb n k e
-is-order k (negsuc n) l h e = let q : ⊥ = omega arith in absurd q
+is-order k z l h e = ap (isOrder k) (the-order k z l h e) ∙ eq-eqb k k refl
 
 pub not-order : (k : ℕ) (z : ℤ) → (ofZ w32 z ≡ k → ⊥) → isOrder k z ≡ false
 not-order k (pos n) e = ne-eqb n k e

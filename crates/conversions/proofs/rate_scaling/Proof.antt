@@ -6,15 +6,15 @@ use borrow.Author.Needs.{needs}
 use Rattle.conversions.proofs.rate_scaling.Statement.{statement}
 use Rattle.conversions.proofs.rate_scaling.Tie as tie
 
-int-to-float-pow-2-fast : tie.Need-int-to-float-pow-2-fast
-int-to-float-pow-2-fast c = search needs
+int-to-float-pow-2-fast-1 : tie.Need-int-to-float-pow-2-fast-1
+int-to-float-pow-2-fast-1 c = search needs
 
-pow-2-fast-requires : tie.Need-pow-2-fast-requires
-pow-2-fast-requires c κs = search needs
+pow-2-fast-1-requires : tie.Need-pow-2-fast-1-requires
+pow-2-fast-1-requires c κs = search needs
 
 returns : tie.Need-returns
 unfolding rateScaling decimal ofBits
-returns c = c .pow-2-fast .ensures
+returns c = c .pow-2-fast-1 .ensures
 
 pub rate-scaling-spec : {M : Type 1} → statement M
-rate-scaling-spec = tie.close (tie.spec int-to-float-pow-2-fast pow-2-fast-requires returns)
+rate-scaling-spec = tie.close (tie.spec int-to-float-pow-2-fast-1 pow-2-fast-1-requires returns)
