@@ -101,8 +101,8 @@ fn sine(phase: f32) -> f32 {
 }
 
 fn sine_pm(phase: u32, pm: f32) -> f32 {
-    let lut = sine::lut_sine();
-    sine::sine_pm(&lut, phase, pm)
+    let pairs = sine::sine_pairs();
+    sine::sine_pm(&pairs, phase, pm)
 }
 
 // A lookup in one of the three long tables.

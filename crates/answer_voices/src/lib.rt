@@ -280,10 +280,10 @@ fn rendered(entry: u8, v: Voice, p: VoiceParameters, block: &mut [f32]) -> Rende
     if entry == 0x87 {
         return voice::render(v, p, block);
     }
-    let lut = sine::lut_sine();
+    let pairs = sine::sine_pairs();
     let high = units::lut_pitch_ratio_high();
     let low = units::lut_pitch_ratio_low();
-    voice::render_with(&lut, &high, &low, v, p, block)
+    voice::render_with(&pairs, &high, &low, v, p, block)
 }
 
 // Writes a block as a slice of floats and a voice behind it.

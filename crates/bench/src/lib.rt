@@ -25,11 +25,11 @@ pub extern "C" fn bench_sine_pm(
     pm_step: f32,
     out: &mut [f32],
 ) {
-    let lut = sine::lut_sine();
+    let pairs = sine::sine_pairs();
     let mut k = 0u32;
     while k < blocks {
         sine_block(
-            &lut,
+            &pairs,
             numbers::wrapping_add_u32(phase, k),
             step,
             pm,
@@ -40,7 +40,7 @@ pub extern "C" fn bench_sine_pm(
     }
 }
 
-fn sine_block(lut: &[f32; 641], phase: u32, step: u32, pm: f32, pm_step: f32, out: &mut [f32]) {
+fn sine_block(lut: &[f32; 1024], phase: u32, step: u32, pm: f32, pm_step: f32, out: &mut [f32]) {
     let mut at = phase;
     let mut by = pm;
     let mut i = 0;
@@ -85,11 +85,11 @@ pub extern "C" fn bench_render_none(
     add: u8,
     out: &mut [f32],
 ) -> u32 {
-    let lut = sine::lut_sine();
+    let pairs = sine::sine_pairs();
     let mut s = silent();
     let mut k = 0u32;
     while k < blocks {
-        s = operator::render_none(&lut, entered(s, size, frequency, target), add != 0, out);
+        s = operator::render_none(&pairs, entered(s, size, frequency, target), add != 0, out);
         k += 1;
     }
     s.first.phase
@@ -122,12 +122,12 @@ fn external_blocks(
 ) -> u32
     requires { ⌜ length (now out) ≤ length (now modulation) ⌝ }
 {
-    let lut = sine::lut_sine();
+    let pairs = sine::sine_pairs();
     let mut s = silent();
     let mut k = 0u32;
     while k < blocks {
         let from = entered(s, size, frequency, target);
-        s = operator::render_external(&lut, from, add != 0, modulation, out);
+        s = operator::render_external(&pairs, from, add != 0, modulation, out);
         k += 1;
     }
     s.first.phase
@@ -143,12 +143,18 @@ pub extern "C" fn bench_render_feedback(
     add: u8,
     out: &mut [f32],
 ) -> u32 {
-    let lut = sine::lut_sine();
+    let pairs = sine::sine_pairs();
     let mut s = silent();
     let mut k = 0u32;
     while k < blocks {
         let from = entered(s, size, frequency, target);
-        s = operator::render_feedback(&lut, from, operator::feedback_scale(amount), add != 0, out);
+        s = operator::render_feedback(
+            &pairs,
+            from,
+            operator::feedback_scale(amount),
+            add != 0,
+            out,
+        );
         k += 1;
     }
     s.first.phase
@@ -351,7 +357,7 @@ fn mixed_call(c: Call) -> u8 {
 
 // Blocks of a voice, one after the other in the same place; the phase of its last operator.
 fn sounded(
-    lut: &[f32; 641],
+    lut: &[f32; 1024],
     high: &[f32; 256],
     low: &[f32; 256],
     first: Voice,
@@ -375,7 +381,7 @@ fn sounded(
 // A fresh voice gets a patch, is blank for a block, and sounds for so many. The tables are made once.
 #[no_mangle]
 pub extern "C" fn bench_voice(bytes: &[u8], note: f32, blocks: u32, block: &mut [f32]) -> u32 {
-    let lut = sine::lut_sine();
+    let pairs = sine::sine_pairs();
     let high = units::lut_pitch_ratio_high();
     let low = units::lut_pitch_ratio_low();
     let table = opcodes::opcodes_6_32();
@@ -395,9 +401,9 @@ pub extern "C" fn bench_voice(bytes: &[u8], note: f32, blocks: u32, block: &mut 
         pitch_mod: 0.0,
         amp_mod: 0.0,
     };
-    let blank = voice::render_with(&lut, &high, &low, dirty, p, block);
+    let blank = voice::render_with(&pairs, &high, &low, dirty, p, block);
     let clean = blank.voice;
-    sounded(&lut, &high, &low, clean, p, blocks, block)
+    sounded(&pairs, &high, &low, clean, p, blocks, block)
 }
 
 // The identifier of a packed patch.

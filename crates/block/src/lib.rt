@@ -162,7 +162,7 @@ fn triple_back(v: Operators, first: u8, e: Triple) -> Operators
 
 // A call of each kind. The part of the block that it writes starts at the quarter of its output.
 fn call_none(
-    lut: &[f32; 641],
+    lut: &[f32; 1024],
     g: Setting,
     c: Call,
     v: Operators,
@@ -179,7 +179,7 @@ fn call_none(
 }
 
 fn call_external(
-    lut: &[f32; 641],
+    lut: &[f32; 1024],
     g: Setting,
     c: Call,
     v: Operators,
@@ -199,7 +199,7 @@ fn call_external(
 }
 
 fn call_feedback(
-    lut: &[f32; 641],
+    lut: &[f32; 1024],
     g: Setting,
     c: Call,
     v: Operators,
@@ -216,7 +216,7 @@ fn call_feedback(
 }
 
 fn call_feedback_2(
-    lut: &[f32; 641],
+    lut: &[f32; 1024],
     g: Setting,
     c: Call,
     v: Operators,
@@ -233,7 +233,7 @@ fn call_feedback_2(
 }
 
 fn call_feedback_3(
-    lut: &[f32; 641],
+    lut: &[f32; 1024],
     g: Setting,
     c: Call,
     v: Operators,
@@ -250,7 +250,7 @@ fn call_feedback_3(
 }
 
 fn call(
-    lut: &[f32; 641],
+    lut: &[f32; 1024],
     g: Setting,
     c: Call,
     v: Operators,
@@ -278,7 +278,7 @@ fn call(
 
 // The calls of a plan, in order, with room for a quarter aside.
 fn run_calls(
-    lut: &[f32; 641],
+    lut: &[f32; 1024],
     g: Setting,
     plan: Plan,
     v0: Operators,
@@ -302,7 +302,7 @@ fn run_calls(
 
 // A short block needs little room, and clearing more would cost it time.
 fn run_short(
-    lut: &[f32; 641],
+    lut: &[f32; 1024],
     g: Setting,
     plan: Plan,
     v: Operators,
@@ -317,7 +317,7 @@ fn run_short(
 }
 
 fn run_long(
-    lut: &[f32; 641],
+    lut: &[f32; 1024],
     g: Setting,
     plan: Plan,
     v: Operators,
@@ -347,7 +347,7 @@ fn setting_of(steps: [u32; 6], amplitudes: [f32; 6], feedback: u8, n: usize) -> 
 
 // A plan's block.
 pub fn run_plan(
-    lut: &[f32; 641],
+    lut: &[f32; 1024],
     plan: Plan,
     v: Operators,
     steps: [u32; 6],

@@ -12,6 +12,7 @@ use lib.Ieee.{Float, nan, binary32, toBits}
 use lib.ListN.{getD}
 use Rattle.numbers.specs.F32.{decimal}
 use Rattle.sine.specs.Table.{lutSine}
+use Rattle.sine.specs.Pairs.{sinePairs}
 use Rattle.units.specs.Tables.{lutPitchRatioHigh, lutPitchRatioLow}
 use Rattle.patch.specs.declared.Patch.{Patch}
 use Rattle.opcodes.specs.Opcodes.{sixOperators}
@@ -56,37 +57,38 @@ pub readied-of : (p : Patch) {table : List ℕ} {made : Prepared} {loaded : Load
 unfolding readied
 readied-of p et em el es eset er en = rw (en, er, eset, es, el, em, et) refl
 
-module _ (lut high low : List Float) where
+module _ (pairs high low : List Float) where
   pub set-up-of : (v : Voice) (note : Float) {q : VoiceParameters} {number : ℕ} {w : Voice} {block : List Float} → q ≡ parametersOf note false (decimal 0 0) (decimal 0 0)
-      → record { number = number; voice = w; block = block } ≡ voice.renderAnswer lut high low v q silence → w ≡ setUpFor lut high low v note
+      → record { number = number; voice = w; block = block } ≡ voice.renderAnswer pairs high low v q silence → w ≡ setUpFor pairs high low v note
   unfolding setUpFor
   set-up-of v note eq e = ap (λ (a : voice.Answered). a .voice) (rw eq at e)
 
+module _ (lut pairs high low : List Float) where
   pub block-played-of : (note : Float) (gate : Bool) (s : Playing) {m : Moved} {pitch amp : Read} {q : VoiceParameters} {number hash : ℕ} {w : Voice} {block : List Float}
       → m ≡ lfo.stepAnswer lut (s .lfo) (s .random) (decimal 64 0) → pitch ≡ lfo.pitchModAnswer (m .lfo) → amp ≡ lfo.ampModAnswer (m .lfo)
       → q ≡ parametersOf note gate (pitch .value) (amp .value)
-      → record { number = number; voice = w; block = block } ≡ voice.renderAnswer lut high low (s .voice) q silence
+      → record { number = number; voice = w; block = block } ≡ voice.renderAnswer pairs high low (s .voice) q silence
       → hash ≡ hashedSamples block 64 (s .hash)
-      → record { voice = w; lfo = m .lfo; random = m .state; hash = hash } ≡ blockPlayed lut high low note gate s
+      → record { voice = w; lfo = m .lfo; random = m .state; hash = hash } ≡ blockPlayed lut pairs high low note gate s
   unfolding blockPlayed
   block-played-of note gate s em ep ea eq er eh =
       let here = rw (eq, ep, ea, em) at er in
       rw (eh, em, sym here) refl
 
   -- one block more
-  pub played-next : (note : Float) (gate : Bool) (n : ℕ) (before : Playing) {s t : Playing} → s ≡ blocksPlayed lut high low note gate n before
-      → t ≡ blockPlayed lut high low note gate s → t ≡ blocksPlayed lut high low note gate (n + 1) before
+  pub played-next : (note : Float) (gate : Bool) (n : ℕ) (before : Playing) {s t : Playing} → s ≡ blocksPlayed lut pairs high low note gate n before
+      → t ≡ blockPlayed lut pairs high low note gate s → t ≡ blocksPlayed lut pairs high low note gate (n + 1) before
   unfolding blocksPlayed
   played-next note gate n before es et = rw (add-one n, et, es) refl
 
-  pub note-played-of : (r : Ready) (note : Float) (hash : ℕ) {v : Voice} {held released : Playing} → v ≡ setUpFor lut high low (r .voice) note
-      → held ≡ blocksPlayed lut high low note true 128 (record { voice = v; lfo = r .lfo; random = 0x21; hash = hash })
-      → released ≡ blocksPlayed lut high low note false 64 held → released .hash ≡ notePlayed lut high low r note hash
+  pub note-played-of : (r : Ready) (note : Float) (hash : ℕ) {v : Voice} {held released : Playing} → v ≡ setUpFor pairs high low (r .voice) note
+      → held ≡ blocksPlayed lut pairs high low note true 128 (record { voice = v; lfo = r .lfo; random = 0x21; hash = hash })
+      → released ≡ blocksPlayed lut pairs high low note false 64 held → released .hash ≡ notePlayed lut pairs high low r note hash
   unfolding notePlayed
   note-played-of r note hash ev eh er = rw (er, eh, ev) refl
 
-  pub notes-played-of : (r : Ready) {h₁ h₂ h₃ : ℕ} → h₁ ≡ notePlayed lut high low r (decimal 36 0) hashBasis → h₂ ≡ notePlayed lut high low r (decimal 60 0) h₁
-      → h₃ ≡ notePlayed lut high low r (decimal 84 0) h₂ → h₃ ≡ notesPlayed lut high low r
+  pub notes-played-of : (r : Ready) {h₁ h₂ h₃ : ℕ} → h₁ ≡ notePlayed lut pairs high low r (decimal 36 0) hashBasis → h₂ ≡ notePlayed lut pairs high low r (decimal 60 0) h₁
+      → h₃ ≡ notePlayed lut pairs high low r (decimal 84 0) h₂ → h₃ ≡ notesPlayed lut pairs high low r
   unfolding notesPlayed
   notes-played-of r e₁ e₂ e₃ = rw (e₃, e₂, e₁) refl
 
@@ -99,8 +101,8 @@ pub not-identified : (p : Patch) (r : Ready) → r ≡ readied p → (r .number 
 unfolding identityOf
 not-identified p r er n = rw (sym er, ne-eqb (r .number) 0 n) refl
 
-pub identified : (p : Patch) (r : Ready) {lut high low : List Float} {identifier : ℕ} → r ≡ readied p → r .number ≡ 0 → lut ≡ lutSine → high ≡ lutPitchRatioHigh
-    → low ≡ lutPitchRatioLow → identifier ≡ notesPlayed lut high low r → record { number = 0; identifier = identifier } ≡ identityOf p
+pub identified : (p : Patch) (r : Ready) {lut pairs high low : List Float} {identifier : ℕ} → r ≡ readied p → r .number ≡ 0 → lut ≡ lutSine → pairs ≡ sinePairs → high ≡ lutPitchRatioHigh
+    → low ≡ lutPitchRatioLow → identifier ≡ notesPlayed lut pairs high low r → record { number = 0; identifier = identifier } ≡ identityOf p
 unfolding identityOf
-identified p r er n es eh el e =
-    rw (sym er, e, es, eh, el) (sym (ap (answer (notesPlayed lutSine lutPitchRatioHigh lutPitchRatioLow r)) n))
+identified p r er n es ep eh el e =
+    rw (sym er, e, es, ep, eh, el) (sym (ap (answer (notesPlayed lutSine sinePairs lutPitchRatioHigh lutPitchRatioLow r)) n))

@@ -7,6 +7,7 @@ use lib.ListN.{replicate}
 use lib.Ieee.{Float}
 use Rattle.numbers.specs.F32.{decimal}
 use Rattle.sine.specs.Table.{lutSine}
+use Rattle.sine.specs.Pairs.{sinePairs}
 use Rattle.units.specs.Tables.{lutPitchRatioHigh, lutPitchRatioLow}
 use Rattle.patch.specs.declared.Patch.{Patch}
 use Rattle.opcodes.specs.Opcodes.{sixOperators}
@@ -44,13 +45,19 @@ parametersOf note gate pitchMod ampMod = record {
 abbrev pub silence : List Float
 silence = replicate 256 (decimal 0 0)
 
-module _ (lut high low : List Float) where
+-- a voice looks the sine up in pairs, the LFO in the table itself
+module _ (pairs high low : List Float) where
+  -- a blank block sets the voice up: gate off, no modulation, the LFO does not step
+  unfoldable pub setUpFor : Voice → Float → Voice
+  setUpFor v note = voice.renderAnswer pairs high low v (parametersOf note false (decimal 0 0) (decimal 0 0)) silence .voice
+
+module _ (lut pairs high low : List Float) where
   -- the LFO steps by 64, its modulations become the block's, and the block's samples are hashed
   unfoldable pub blockPlayed : Float → Bool → Playing → Playing
   blockPlayed note gate s =
       let m = lfo.stepAnswer lut (s .lfo) (s .random) (decimal 64 0) in
       let p = parametersOf note gate (lfo.pitchModAnswer (m .lfo) .value) (lfo.ampModAnswer (m .lfo) .value) in
-      let a = voice.renderAnswer lut high low (s .voice) p silence in
+      let a = voice.renderAnswer pairs high low (s .voice) p silence in
       record { voice = a .voice; lfo = m .lfo; random = m .state; hash = hashedSamples (a .block) 64 (s .hash) }
 
   -- so many blocks, one after the other
@@ -58,14 +65,10 @@ module _ (lut high low : List Float) where
   blocksPlayed note gate zero s = s
   blocksPlayed note gate (suc n) s = blockPlayed note gate (blocksPlayed note gate n s)
 
-  -- a blank block sets the voice up: gate off, no modulation, the LFO does not step
-  unfoldable pub setUpFor : Voice → Float → Voice
-  setUpFor v note = voice.renderAnswer lut high low v (parametersOf note false (decimal 0 0) (decimal 0 0)) silence .voice
-
-  -- then 128 blocks with the gate on and 64 with it off; the generator's number begins at 21 (hex)
+  -- a voice set up, then 128 blocks with the gate on and 64 with it off; the generator's number begins at 21 (hex)
   unfoldable pub notePlayed : Ready → Float → ℕ → ℕ
   notePlayed r note hash =
-      let s : Playing = record { voice = setUpFor (r .voice) note; lfo = r .lfo; random = 0x21; hash = hash } in
+      let s : Playing = record { voice = setUpFor pairs high low (r .voice) note; lfo = r .lfo; random = 0x21; hash = hash } in
       blocksPlayed note false 64 (blocksPlayed note true 128 s) .hash
 
   -- the notes 36, 60 and 84, each from the beginning, in one hash
@@ -76,4 +79,4 @@ module _ (lut high low : List Float) where
 unfoldable pub identityOf : Patch → Identified
 identityOf p =
     let r = readied p in
-    record { number = r .number; identifier = cond (eqb (r .number) 0) (notesPlayed lutSine lutPitchRatioHigh lutPitchRatioLow r) 0 }
+    record { number = r .number; identifier = cond (eqb (r .number) 0) (notesPlayed lutSine sinePairs lutPitchRatioHigh lutPitchRatioLow r) 0 }

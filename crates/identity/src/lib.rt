@@ -117,16 +117,17 @@ fn parameters(note: f32, gate: bool, pitch_mod: f32, amp_mod: f32) -> VoiceParam
     }
 }
 
-// One block. The scratch quarters are cleared with the output: nothing that is heard depends on them.
+// One block: the LFO reads the sine's table, the voice its pairs. The scratch quarters are cleared with the output: nothing that is heard depends on them.
 fn play_block(
     lut: &[f32; 641],
+    pairs: &[f32; 1024],
     high: &[f32; 256],
     low: &[f32; 256],
     note: f32,
     gate: bool,
     s: Playing,
 ) -> Playing
-    ensures { λ r. ⌜ r ≡ blockPlayed (now (lut .entry)) (now (high .entry)) (now (low .entry)) note gate s ⌝ }
+    ensures { λ r. ⌜ r ≡ blockPlayed (now (lut .entry)) (now (pairs .entry)) (now (high .entry)) (now (low .entry)) note gate s ⌝ }
 {
     let before = s.lfo;
     let moved = lfo::step_with(lut, before, s.random, 64.0);
@@ -136,7 +137,7 @@ fn play_block(
     let p = parameters(note, gate, pitch.value, amp.value);
     let v = s.voice;
     let mut block = [0.0f32; 256];
-    let rendered = voice::render_with(lut, high, low, v, p, &mut block);
+    let rendered = voice::render_with(pairs, high, low, v, p, &mut block);
     let hash = hash_output(&block, s.hash);
     let voice = rendered.voice;
     Playing {
@@ -149,6 +150,7 @@ fn play_block(
 
 fn play_blocks(
     lut: &[f32; 641],
+    pairs: &[f32; 1024],
     high: &[f32; 256],
     low: &[f32; 256],
     note: f32,
@@ -156,58 +158,65 @@ fn play_blocks(
     n: u32,
     before: Playing,
 ) -> Playing
-    ensures { λ r. ⌜ r ≡ blocksPlayed (now (lut .entry)) (now (high .entry)) (now (low .entry)) note gate n before ⌝ }
+    ensures { λ r. ⌜ r ≡ blocksPlayed (now (lut .entry)) (now (pairs .entry)) (now (high .entry)) (now (low .entry)) note gate n before ⌝ }
 {
     let mut s = before;
     let mut i = 0u32;
     while i < n {
-        s = play_block(lut, high, low, note, gate, s);
+        s = play_block(lut, pairs, high, low, note, gate, s);
         i += 1;
     }
     s
 }
 
 // The voice after the blank block that sets it up.
-fn set_up(lut: &[f32; 641], high: &[f32; 256], low: &[f32; 256], v: Voice, note: f32) -> Voice
-    ensures { λ r. ⌜ r ≡ setUpFor (now (lut .entry)) (now (high .entry)) (now (low .entry)) v note ⌝ }
+fn set_up(pairs: &[f32; 1024], high: &[f32; 256], low: &[f32; 256], v: Voice, note: f32) -> Voice
+    ensures { λ r. ⌜ r ≡ setUpFor (now (pairs .entry)) (now (high .entry)) (now (low .entry)) v note ⌝ }
 {
     let p = parameters(note, false, 0.0, 0.0);
     let mut block = [0.0f32; 256];
-    let rendered = voice::render_with(lut, high, low, v, p, &mut block);
+    let rendered = voice::render_with(pairs, high, low, v, p, &mut block);
     rendered.voice
 }
 
 // A note from the beginning, and the hash after it.
 fn play_note(
     lut: &[f32; 641],
+    pairs: &[f32; 1024],
     high: &[f32; 256],
     low: &[f32; 256],
     r: Ready,
     note: f32,
     hash: u64,
 ) -> u64
-    ensures { λ h. ⌜ h ≡ notePlayed (now (lut .entry)) (now (high .entry)) (now (low .entry)) r note hash ⌝ }
+    ensures { λ h. ⌜ h ≡ notePlayed (now (lut .entry)) (now (pairs .entry)) (now (high .entry)) (now (low .entry)) r note hash ⌝ }
 {
     let v = r.voice;
     let lfo = r.lfo;
-    let voice = set_up(lut, high, low, v, note);
+    let voice = set_up(pairs, high, low, v, note);
     let s = Playing {
         voice,
         lfo,
         random: 0x21,
         hash,
     };
-    let held = play_blocks(lut, high, low, note, true, 128, s);
-    let released = play_blocks(lut, high, low, note, false, 64, held);
+    let held = play_blocks(lut, pairs, high, low, note, true, 128, s);
+    let released = play_blocks(lut, pairs, high, low, note, false, 64, held);
     released.hash
 }
 
-fn play_notes(lut: &[f32; 641], high: &[f32; 256], low: &[f32; 256], r: Ready) -> u64
-    ensures { λ h. ⌜ h ≡ notesPlayed (now (lut .entry)) (now (high .entry)) (now (low .entry)) r ⌝ }
+fn play_notes(
+    lut: &[f32; 641],
+    pairs: &[f32; 1024],
+    high: &[f32; 256],
+    low: &[f32; 256],
+    r: Ready,
+) -> u64
+    ensures { λ h. ⌜ h ≡ notesPlayed (now (lut .entry)) (now (pairs .entry)) (now (high .entry)) (now (low .entry)) r ⌝ }
 {
-    let h36 = play_note(lut, high, low, r, 36.0, HASH_BASIS);
-    let h60 = play_note(lut, high, low, r, 60.0, h36);
-    play_note(lut, high, low, r, 84.0, h60)
+    let h36 = play_note(lut, pairs, high, low, r, 36.0, HASH_BASIS);
+    let h60 = play_note(lut, pairs, high, low, r, 60.0, h36);
+    play_note(lut, pairs, high, low, r, 84.0, h60)
 }
 
 // A patch's identifier, or the number of its refusal.
@@ -222,10 +231,11 @@ pub fn identify(patch: Patch) -> Identified
         };
     }
     let lut = sine::lut_sine();
+    let pairs = sine::sine_pairs();
     let high = units::lut_pitch_ratio_high();
     let low = units::lut_pitch_ratio_low();
     Identified {
         number: 0,
-        identifier: play_notes(&lut, &high, &low, r),
+        identifier: play_notes(&lut, &pairs, &high, &low, r),
     }
 }

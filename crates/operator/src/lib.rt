@@ -105,7 +105,7 @@ pub fn leave(l: Lane) -> Operator
 }
 
 // An operator's sample at the phase that it moves on to.
-fn sound(lut: &[f32; 641], l: Lane, pm: f32) -> f32
+fn sound(lut: &[f32; 1024], l: Lane, pm: f32) -> f32
     ensures { λ r. ⌜ r ≡ sounded (now (lut .entry)) l pm ⌝ }
 {
     sine::sine_pm(lut, numbers::wrapping_add_u32(l.phase, l.step), pm) * l.amplitude
@@ -148,7 +148,7 @@ fn mix(add: bool, there: f32, pm: f32) -> f32
 }
 
 // One operator that nothing modulates.
-pub fn render_none(lut: &[f32; 641], s: Single, add: bool, out: &mut [f32]) -> Single
+pub fn render_none(lut: &[f32; 1024], s: Single, add: bool, out: &mut [f32]) -> Single
     ensures { λ r. ⌜ (now (out .exit) ≡ written (now (lut .entry)) Source.none add 0 (one s) (now (out .entry)))
         × (one r ≡ ended (now (lut .entry)) Source.none (length (now (out .entry))) 0 (one s)) ⌝ }
 {
@@ -169,7 +169,7 @@ pub fn render_none(lut: &[f32; 641], s: Single, add: bool, out: &mut [f32]) -> S
 
 // One operator, modulated by the samples of another buffer.
 pub fn render_external(
-    lut: &[f32; 641],
+    lut: &[f32; 1024],
     s: Single,
     add: bool,
     modulation: &[f32],
@@ -196,7 +196,7 @@ pub fn render_external(
 
 // One operator, modulated by its own last two samples.
 pub fn render_feedback(
-    lut: &[f32; 641],
+    lut: &[f32; 1024],
     s: Single,
     scale: f32,
     add: bool,
@@ -222,7 +222,7 @@ pub fn render_feedback(
 }
 
 // Two operators, the first modulated by the last two samples of the second.
-pub fn render_feedback_2(lut: &[f32; 641], s: Pair, scale: f32, add: bool, out: &mut [f32]) -> Pair
+pub fn render_feedback_2(lut: &[f32; 1024], s: Pair, scale: f32, add: bool, out: &mut [f32]) -> Pair
     ensures { λ r. ⌜ (now (out .exit) ≡ written (now (lut .entry)) (Source.feedback scale) add 0 (two s) (now (out .entry)))
         × (two r ≡ ended (now (lut .entry)) (Source.feedback scale) (length (now (out .entry))) 0 (two s)) ⌝ }
 {
@@ -247,7 +247,7 @@ pub fn render_feedback_2(lut: &[f32; 641], s: Pair, scale: f32, add: bool, out: 
 
 // Three operators, the first modulated by the last two samples of the third.
 pub fn render_feedback_3(
-    lut: &[f32; 641],
+    lut: &[f32; 1024],
     s: Triple,
     scale: f32,
     add: bool,

@@ -7,7 +7,7 @@ use Prim.Native.Nat.{ℕ, _/_, _%_}
 use lib.Dec.{T}
 use lib.ListN.{length, take}
 use lib.Ieee.{Float}
-use Rattle.sine.specs.Table.{lutSine}
+use Rattle.sine.specs.Pairs.{sinePairs}
 use Rattle.units.specs.Tables.{lutPitchRatioHigh, lutPitchRatioLow}
 use Rattle.block.proofs.Same.{same-sound}
 use Rattle.voice.specs.declared.Voice.{Voice}
@@ -75,7 +75,7 @@ pub step-alike : (s : State) {c d : Call} → Alike c d → heard (stepOf c s) �
 unfolding heard stepOf
 step-alike s (equal call) = refl
 step-alike s (blocks p one other l o) =
-    ap (rendered s) (rendered-alike lutSine lutPitchRatioHigh lutPitchRatioLow (s .voice) p one other l o)
+    ap (rendered s) (rendered-alike sinePairs lutPitchRatioHigh lutPitchRatioLow (s .voice) p one other l o)
 
 state-heard : (a b : Step) → heard a ≡ heard b → a .state ≡ b .state
 unfolding heard

@@ -9,6 +9,7 @@ use lib.Dec.{T, eqb}
 use lib.Ieee.{Float}
 use lib.Ieee.Fits.{and-i, and-l}
 use Rattle.sine.specs.Table.{lutSine}
+use Rattle.sine.specs.Pairs.{sinePairs}
 use Rattle.units.specs.Tables.{lutPitchRatioHigh, lutPitchRatioLow}
 use Rattle.algorithms.specs.Plan.{counted}
 use Rattle.lfo.specs.declared.Lfo.{Lfo}
@@ -58,7 +59,7 @@ module _ (s : State) (g : Good s) where
       (λ e. record { voice = init-keeps operators rate .1 e; lfo = g .lfo })
   step-keeps-good (SetPatch p table) = record { voice = set-patch-keeps (s .voice) (g .voice) p table .0; lfo = g .lfo }
   step-keeps-good TakePatch = record { voice = take-patch-keeps (s .voice) (g .voice) .0; lfo = g .lfo }
-  step-keeps-good (Render p block) = record { voice = render-keeps (s .voice) (g .voice) lutSine lutPitchRatioHigh lutPitchRatioLow p block .0; lfo = g .lfo }
+  step-keeps-good (Render p block) = record { voice = render-keeps (s .voice) (g .voice) sinePairs lutPitchRatioHigh lutPitchRatioLow p block .0; lfo = g .lfo }
   step-keeps-good (StartLfo rate) =
       if-started (lfoAnswers.initAnswer rate .number) s (withLfo s (lfoAnswers.initAnswer rate .lfo) (s .random)) g
       (λ e. record { voice = g .voice; lfo = lfo-init-keeps rate .1 e })
@@ -69,7 +70,7 @@ module _ (s : State) (g : Good s) where
   step-never-9 (Start operators rate) = init-keeps operators rate .0
   step-never-9 (SetPatch p table) = set-patch-keeps (s .voice) (g .voice) p table .1
   step-never-9 TakePatch = take-patch-keeps (s .voice) (g .voice) .1
-  step-never-9 (Render p block) = render-keeps (s .voice) (g .voice) lutSine lutPitchRatioHigh lutPitchRatioLow p block .1
+  step-never-9 (Render p block) = render-keeps (s .voice) (g .voice) sinePairs lutPitchRatioHigh lutPitchRatioLow p block .1
   step-never-9 (StartLfo rate) = lfo-init-keeps rate .0
   step-never-9 (OfLfo call) = call-no-nine lutSine call (s .lfo) (s .random) (g .lfo)
 

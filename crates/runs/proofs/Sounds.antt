@@ -12,6 +12,7 @@ use Rattle.numbers.specs.Words.{sumSigned, differenceSigned}
 use Rattle.utils.specs.Interpolate.{lineAt, interpolated}
 use Rattle.sine.specs.Sine.{stepsOf, modulated, phaseLine, sinePm}
 use Rattle.sine.specs.Table.{lutSine}
+use Rattle.sine.specs.Pairs.{pairsOf, sinePairs}
 use Rattle.units.specs.Ratio.{ratioIn, lowered, raised, ratioOf}
 use Rattle.units.specs.Ratio as ratio
 use Rattle.units.specs.Tables.{lutPitchRatioHigh, lutPitchRatioLow}
@@ -64,7 +65,7 @@ unfolding neg add sub mul div lt eq le ne isNan ofInt toUnsigned toSigned ofBits
     sumSigned differenceSigned
     lineAt interpolated
     stepsOf modulated phaseLine sinePm
-    lutSine
+    lutSine pairsOf sinePairs
     ratioIn lowered raised ratioOf ratio.within
     lutPitchRatioHigh lutPitchRatioLow
     wholeBelow mantissaBits pow2Fast stepFor

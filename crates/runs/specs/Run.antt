@@ -7,6 +7,7 @@ use lib.Dec.{eqb}
 use lib.Ieee.{Float}
 use Rattle.numbers.specs.F32.{decimal}
 use Rattle.sine.specs.Table.{lutSine}
+use Rattle.sine.specs.Pairs.{sinePairs}
 use Rattle.units.specs.Tables.{lutPitchRatioHigh, lutPitchRatioLow}
 use Rattle.patch.specs.declared.Patch.{Patch}
 use Rattle.lfo.specs.declared.Lfo.{Lfo}
@@ -86,7 +87,7 @@ unfoldable pub stepOf : Call → State → Step
 stepOf (Start operators rate) s = started s (initAnswer operators rate)
 stepOf (SetPatch p table) s = loadedInto s (setPatchAnswer (s .voice) p table)
 stepOf TakePatch s = takenFrom s (takePatchAnswer (s .voice))
-stepOf (Render p block) s = rendered s (renderAnswer lutSine lutPitchRatioHigh lutPitchRatioLow (s .voice) p block)
+stepOf (Render p block) s = rendered s (renderAnswer sinePairs lutPitchRatioHigh lutPitchRatioLow (s .voice) p block)
 stepOf (StartLfo rate) s = lfoStarted s (lfoAnswers.initAnswer rate)
 stepOf (OfLfo call) s = lfoAnswered s (lfo.answerTo lutSine call (s .lfo) (s .random))
 

@@ -1,17 +1,19 @@
--- Every entry of the sine table is finite and between -1 and 1: one test over the whole table, which antt computes, carried to each lookup.
+-- Every entry of the sine table is finite and between -1 and 1, and so is every way to the next: one test over the whole table and one
+-- over the pairs, which antt computes, carried to each lookup.
 -- Assumes nothing.
 use mathlib.Core.Bool.{true, false}
 use mathlib.Core.List.{List, [], _∷_}
-use Prim.Native.Nat.{ℕ, zero, suc, _+_, _/_, _^_, _<_}
+use Prim.Native.Nat.{ℕ, zero, suc, _+_, _*_, _/_, _^_, _<_}
 use native.Mathlib.Nat.{le-of-suc-le-suc, not-suc-le-zero}
 use native.Mathlib.Omega.{arith}
 use lib.Dec.{T}
 use lib.ListN.{length, getD}
-use lib.Ieee.{Float, nan, inf, fin, le, lt, eq}
+use lib.Ieee.{Float, nan, inf, fin, le, lt, eq, sub, add, sum, neg}
 use lib.Ieee.Scale.{finite}
 use lib.Ieee.Fits.{and-l, and-r}
 use Rattle.numbers.specs.F32.{decimal, minusDecimal}
 use Rattle.sine.specs.Table.{lutSine}
+use Rattle.sine.specs.Pairs.{pairsOf, sinePairs}
 use Rattle.sine.specs.Bound.{within, allWithin}
 
 -- the test over a table says so of each entry
@@ -32,10 +34,14 @@ pub table-within : T (allWithin lutSine)
 unfolding lutSine allWithin within le lt eq decimal minusDecimal
 table-within = tt
 
-pub entry-within : (k : ℕ) → k < 641 → T (within (getD lutSine k nan))
-unfolding lutSine
-entry-within k h = at-each lutSine table-within k h
+pub pairs-within : T (allWithin sinePairs)
+unfolding sinePairs pairsOf lutSine allWithin within le lt eq decimal minusDecimal sub add sum neg
+pairs-within = tt
 
--- both entries around a phase are, the second also at the end of the turn
-pub lookup-within : (phase : ℕ) → phase < 2 ^ 32 → T (within (getD lutSine (phase / 2 ^ 23) nan)) × T (within (getD lutSine (phase / 2 ^ 23 + 1) nan))
-lookup-within phase h = (entry-within (phase / 2 ^ 23) (omega arith), entry-within (phase / 2 ^ 23 + 1) (omega arith))
+pub entry-within : (k : ℕ) → k < 1024 → T (within (getD sinePairs k nan))
+unfolding sinePairs pairsOf lutSine
+entry-within k h = at-each sinePairs pairs-within k h
+
+-- the entry at a phase and the way to the next are, also at the end of the turn
+pub lookup-within : (phase : ℕ) → phase < 2 ^ 32 → T (within (getD sinePairs (2 * (phase / 2 ^ 23)) nan)) × T (within (getD sinePairs (2 * (phase / 2 ^ 23) + 1) nan))
+lookup-within phase h = (entry-within (2 * (phase / 2 ^ 23)) (omega arith), entry-within (2 * (phase / 2 ^ 23) + 1) (omega arith))

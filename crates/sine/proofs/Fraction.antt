@@ -14,7 +14,7 @@ use lib.Ieee.Back.{round-whole}
 use lib.Ieee.Exact.{HasValue}
 use lib.Ieee.Fits.{down-pos}
 use lib.Ieee.Scale.{round-same}
-use Rattle.numbers.specs.F32.{_⊕_, _⊖_, _⊗_, _⊘_, decimal, asFloat}
+use Rattle.numbers.specs.F32.{_⊕_, _⊗_, _⊘_, decimal, asFloat}
 use Rattle.numbers.specs.Words.{shifted32}
 use Rattle.numbers.proofs.Views.{on}
 use Rattle.utils.proofs.Whole.{whole-exact}
@@ -41,7 +41,7 @@ fraction p =
     ∙ sym (over (asFloat (q * 2 ^ 9)) (q * 2 ^ 9) 32 (whole-exact q 9 (omega arith) (omega arith))))
 
 -- the line, with the part of the phase as it stands
-pub line-is : (lut : List Float) (p : ℕ) {a b : Float} → a ≡ getD lut (p / 2 ^ 23) nan → b ≡ getD lut (p / 2 ^ 23 + 1) nan
-    → a ⊕ (b ⊖ a) ⊗ (asFloat (p % 8388608) ⊘ decimal 8388608 0) ≡ phaseLine lut p
+pub line-is : (pairs : List Float) (p : ℕ) {a way : Float} → a ≡ getD pairs (2 * (p / 2 ^ 23)) nan → way ≡ getD pairs (2 * (p / 2 ^ 23) + 1) nan
+    → a ⊕ way ⊗ (asFloat (p % 8388608) ⊘ decimal 8388608 0) ≡ phaseLine pairs p
 unfolding phaseLine
-line-is lut p ea eb = simp (ea, eb, fraction p)
+line-is pairs p ea ew = simp (ea, ew, fraction p)

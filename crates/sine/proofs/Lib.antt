@@ -1,3 +1,4 @@
 pub mod Bounded
 pub mod Fraction
 pub mod Near
+pub mod Paired

@@ -1,6 +1,6 @@
 -- The sine by lookup, one rounding per written operation, in the Rust's order. Definitions only.
 use mathlib.Core.List.{List}
-use Prim.Native.Nat.{ℕ, _+_, _/_, _^_}
+use Prim.Native.Nat.{ℕ, _+_, _*_, _/_, _^_}
 use lib.ListN.{getD}
 use lib.Ieee.{Float, nan, toUnsigned}
 use Rattle.numbers.specs.F32.{_⊕_, _⊖_, _⊗_, _⊘_, decimal, asFloat}
@@ -19,13 +19,20 @@ stepsOf pm = toUnsigned 32 ((pm ⊕ decimal 32 0) ⊗ (decimal 4294967296 0 ⊘ 
 unfoldable pub modulated : ℕ → Float → ℕ
 modulated phase pm = sum32 phase (product32 (stepsOf pm) 64)
 
--- the straight line between two entries: a phase's highest nine bits name the first, the others say how far on
-unfoldable pub phaseLine : List Float → ℕ → Float
-phaseLine lut phase =
+-- the straight line between two entries of the table: a phase's highest nine bits name the first, the others say how far on
+unfoldable pub entryLine : List Float → ℕ → Float
+entryLine lut phase =
     let a = getD lut (phase / 2 ^ 23) nan in
     let b = getD lut (phase / 2 ^ 23 + 1) nan in
     a ⊕ (b ⊖ a) ⊗ (asFloat (shifted32 phase 9) ⊘ decimal 4294967296 0)
 
--- the sine at a phase of 32 bits with a modulation
+-- the same line from a table of pairs, an entry and the way to the next: over the pairs of a table it is that table's `entryLine` (`pairs-line`)
+unfoldable pub phaseLine : List Float → ℕ → Float
+phaseLine pairs phase =
+    let a = getD pairs (2 * (phase / 2 ^ 23)) nan in
+    let way = getD pairs (2 * (phase / 2 ^ 23) + 1) nan in
+    a ⊕ way ⊗ (asFloat (shifted32 phase 9) ⊘ decimal 4294967296 0)
+
+-- the sine at a phase of 32 bits with a modulation, by a table of pairs
 unfoldable pub sinePm : List Float → ℕ → Float → Float
-sinePm lut phase pm = phaseLine lut (modulated phase pm)
+sinePm pairs phase pm = phaseLine pairs (modulated phase pm)

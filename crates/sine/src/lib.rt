@@ -1,15 +1,18 @@
 // The sine, by lookup in a table of one turn. It follows resources/sine.rs and sine_oscillator.rs. The
-// table is lent, so that a caller makes it once for a whole block. Each function has an answer for
-// every input, and its promise names it.
+// table is lent, so that a caller makes it once for a whole block. Operators look the sine up in a table of
+// pairs, each entry beside the way to the next: the innermost loop reads two neighbours and subtracts
+// nothing. Each function has an answer for every input, and its promise names it.
 ghost use mathlib.Core.Path.{_≡_};
 ghost use Prim.Native.Nat.{_<_};
 ghost use lib.Dec.{T};
 ghost use lib.ListN.{getD};
 ghost use lib.Ieee.{nan};
 ghost use Rattle.sine.specs.Table.{lutSine};
+ghost use Rattle.sine.specs.Pairs.{sinePairs};
 ghost use Rattle.sine.specs.Sine.{sineOf, stepsOf, modulated, phaseLine, sinePm};
 ghost use Rattle.sine.specs.Bound.{within};
 
+mod pairs;
 mod table;
 
 // The table, to be made a local once and lent from there.
@@ -17,6 +20,13 @@ pub fn lut_sine() -> [f32; 641]
     ensures { λ r. ⌜ r ≡ lutSine ⌝ }
 {
     table::LUT_SINE
+}
+
+// One turn of the table as pairs, to be made a local once and lent from there.
+pub fn sine_pairs() -> [f32; 1024]
+    ensures { λ r. ⌜ r ≡ sinePairs ⌝ }
+{
+    pairs::SINE_PAIRS
 }
 
 // The sine at a phase in turns, of which the whole part is dropped; a negative phase counts as 0.
@@ -28,10 +38,10 @@ pub fn sine(lut: &[f32; 641], phase: f32) -> f32
 
 // The sine at a phase of 32 bits plus a modulation in turns, from -32 up to 32: beyond that, and at a
 // NaN, Rust's cast decides.
-pub fn sine_pm(lut: &[f32; 641], phase: u32, pm: f32) -> f32
-    ensures { λ r. ⌜ r ≡ sinePm (now (lut .entry)) phase pm ⌝ }
+pub fn sine_pm(pairs: &[f32; 1024], phase: u32, pm: f32) -> f32
+    ensures { λ r. ⌜ r ≡ sinePm (now (pairs .entry)) phase pm ⌝ }
 {
-    line(lut, modulate(phase, pm))
+    line(pairs, modulate(phase, pm))
 }
 
 // The phase plus the modulation, wrapped.
@@ -57,22 +67,22 @@ fn steps(pm: f32) -> u32
     numbers::f32_as_u32(lifted * scale)
 }
 
-// The straight line between the two entries around a phase. Its lowest 23 bits over 2^23 are an f32,
-// with no rounding: the same as Rust's quotient by 2^32.
-fn line(lut: &[f32; 641], phase: u32) -> f32
-    ensures { λ r. ⌜ r ≡ phaseLine (now (lut .entry)) phase ⌝ }
+// The straight line from the entry at a phase towards the next. The phase's lowest 23 bits over 2^23 are an
+// f32, with no rounding: the same as Rust's quotient by 2^32.
+fn line(pairs: &[f32; 1024], phase: u32) -> f32
+    ensures { λ r. ⌜ r ≡ phaseLine (now (pairs .entry)) phase ⌝ }
 {
     let integral = (phase >> 23) as usize;
     let fractional = (phase % 8388608) as f32 / 8388608.0;
-    let a = entry(lut, integral);
-    let b = entry(lut, integral + 1);
-    a + (b - a) * fractional
+    let a = entry(pairs, 2 * integral);
+    let way = entry(pairs, 2 * integral + 1);
+    a + way * fractional
 }
 
-// An entry. Where the lent table is the sine's, it is finite and from -1 to 1.
-fn entry(lut: &[f32; 641], i: usize) -> f32
-    requires { ⌜ i < 641 ⌝ }
-    ensures { λ r. ⌜ (r ≡ getD (now (lut .entry)) i nan) × (now (lut .entry) ≡ lutSine → T (within r)) ⌝ }
+// An entry, or the way to the next. Where the lent pairs are the sine's, it is finite and from -1 to 1.
+fn entry(pairs: &[f32; 1024], i: usize) -> f32
+    requires { ⌜ i < 1024 ⌝ }
+    ensures { λ r. ⌜ (r ≡ getD (now (pairs .entry)) i nan) × (now (pairs .entry) ≡ sinePairs → T (within r)) ⌝ }
 {
-    lut[i]
+    pairs[i]
 }

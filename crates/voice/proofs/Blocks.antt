@@ -10,7 +10,7 @@ use lib.ListN.{length, getD}
 use lib.Ieee.{Float}
 use lib.Ieee.Fits.{and-l, and-r}
 use Rattle.numbers.specs.F32.{_⊕_}
-use Rattle.sine.specs.Table.{lutSine}
+use Rattle.sine.specs.Pairs.{sinePairs}
 use Rattle.units.specs.Tables.{lutPitchRatioHigh, lutPitchRatioLow}
 use Rattle.conversions.specs.Units.{normalizedVelocity}
 use Rattle.patch.specs.declared.Patch.{Patch}
@@ -243,6 +243,6 @@ module _ (lut high low : List Float) (v : Voice) (p : VoiceParameters) (block : 
 
 -- with the tables made for one block
 pub with-tables : (v : Voice) (p : VoiceParameters) (block : List Float) {a : Answered} {lut high low : List Float}
-    → lut ≡ lutSine → high ≡ lutPitchRatioHigh → low ≡ lutPitchRatioLow → a ≡ renderAnswer lut high low v p block
-    → a ≡ renderAnswer lutSine lutPitchRatioHigh lutPitchRatioLow v p block
+    → lut ≡ sinePairs → high ≡ lutPitchRatioHigh → low ≡ lutPitchRatioLow → a ≡ renderAnswer lut high low v p block
+    → a ≡ renderAnswer sinePairs lutPitchRatioHigh lutPitchRatioLow v p block
 with-tables v p block es eh el e = rw (es, eh, el) at e

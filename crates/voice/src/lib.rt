@@ -6,7 +6,7 @@ ghost use mathlib.Core.Bool.{true, false};
 ghost use Prim.Native.Nat.{_≤_, _<_, _%_};
 ghost use lib.Dec.{T};
 ghost use lib.ListN.{length};
-ghost use Rattle.sine.specs.Table.{lutSine};
+ghost use Rattle.sine.specs.Pairs.{sinePairs};
 ghost use Rattle.units.specs.Tables.{lutPitchRatioHigh, lutPitchRatioLow};
 ghost use Rattle.voice_levels.specs.Levels.{allStages};
 ghost use Rattle.voice.specs.Voice.{voiceWith, withPatch, withoutPatch, withSetup, setUp};
@@ -431,7 +431,7 @@ fn leave(v: Voice, p: VoiceParameters, b: Begun, l: Levels, os: Operators) -> Vo
 
 // A sounding block: envelopes, frequencies and amplitudes first, then the plan's calls.
 fn sound(
-    lut: &[f32; 641],
+    lut: &[f32; 1024],
     high: &[f32; 256],
     low: &[f32; 256],
     v: Voice,
@@ -466,7 +466,7 @@ fn sound(
 
 // A block, with the tables lent. A dirty voice's is blank: it sets up.
 pub fn render_with(
-    lut: &[f32; 641],
+    lut: &[f32; 1024],
     high: &[f32; 256],
     low: &[f32; 256],
     v: Voice,
@@ -507,10 +507,10 @@ pub fn render_with(
 
 // A block: the output and scratch 1 to 3, a quarter each.
 pub fn render(v: Voice, p: VoiceParameters, block: &mut [f32]) -> Rendered
-    ensures { λ r. ⌜ record { number = r .number; voice = r .voice; block = now (block .exit) } ≡ renderAnswer lutSine lutPitchRatioHigh lutPitchRatioLow v p (now (block .entry)) ⌝ }
+    ensures { λ r. ⌜ record { number = r .number; voice = r .voice; block = now (block .exit) } ≡ renderAnswer sinePairs lutPitchRatioHigh lutPitchRatioLow v p (now (block .entry)) ⌝ }
 {
-    let lut = sine::lut_sine();
+    let pairs = sine::sine_pairs();
     let high = units::lut_pitch_ratio_high();
     let low = units::lut_pitch_ratio_low();
-    render_with(&lut, &high, &low, v, p, block)
+    render_with(&pairs, &high, &low, v, p, block)
 }

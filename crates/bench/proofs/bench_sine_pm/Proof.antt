@@ -13,8 +13,8 @@ Inv-loop blocks phase step pm pm-step out₀ lut k₀ out k = (length out ≡ le
 abbrev μ-loop : tie.MeasureT-loop
 μ-loop blocks phase step pm pm-step out₀ lut k₀ out k = blocks - k
 
-lut-sine-requires : tie.Need-lut-sine-requires Inv-loop μ-loop
-lut-sine-requires c κs = search needs
+sine-pairs-requires : tie.Need-sine-pairs-requires Inv-loop μ-loop
+sine-pairs-requires c κs = search needs
 
 loop-holds : tie.Need-loop-holds Inv-loop μ-loop
 loop-holds c = omega arith
@@ -46,7 +46,7 @@ bench-sine-pm-spec =
     (tie.spec
     Inv-loop
     μ-loop
-    lut-sine-requires
+    sine-pairs-requires
     loop-holds
     wrapping-add-u32-requires
     sine-block-requires

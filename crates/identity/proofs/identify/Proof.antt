@@ -13,6 +13,9 @@ returns c = not-identified _ _ (c .before .before .prepare .ensures) (c .if1 .ta
 lut-sine-requires : tie.Need-lut-sine-requires
 lut-sine-requires c κs = search needs
 
+sine-pairs-requires : tie.Need-sine-pairs-requires
+sine-pairs-requires c κs = search needs
+
 lut-pitch-ratio-high-requires : tie.Need-lut-pitch-ratio-high-requires
 lut-pitch-ratio-high-requires c κs = search needs
 
@@ -23,7 +26,7 @@ play-notes-requires : tie.Need-play-notes-requires
 play-notes-requires c κs = search needs
 
 returns-2 : tie.Need-returns-2
-returns-2 c = identified _ _ (c .before .before .before .before .before .before .before .before .before .prepare .ensures) (c .before .before .before .before .before .before .before .if1 .left) (c .before .before .before .before .before .before .lut-sine .ensures) (c .before .before .before .before .before .lut-pitch-ratio-high .ensures) (c .before .before .before .before .lut-pitch-ratio-low .ensures) (c .play-notes .ensures)
+returns-2 c = identified _ _ (c .before .before .before .before .before .before .before .before .before .before .before .prepare .ensures) (c .before .before .before .before .before .before .before .before .before .if1 .left) (c .before .before .before .before .before .before .before .before .lut-sine .ensures) (c .before .before .before .before .before .before .before .sine-pairs .ensures) (c .before .before .before .before .before .before .lut-pitch-ratio-high .ensures) (c .before .before .before .before .before .lut-pitch-ratio-low .ensures) (c .play-notes .ensures)
 
 pub identify-spec : {M : Type 1} → statement M
 identify-spec =
@@ -32,6 +35,7 @@ identify-spec =
     prepare-requires
     returns
     lut-sine-requires
+    sine-pairs-requires
     lut-pitch-ratio-high-requires
     lut-pitch-ratio-low-requires
     play-notes-requires

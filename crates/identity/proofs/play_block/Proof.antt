@@ -29,7 +29,7 @@ hash-output-requires c κs = search needs
 
 returns : tie.Need-returns
 unfolding decimal ofBits
-returns c = block-played-of _ _ _ _ _ _ (c .before .before .before .before .before .before .before .before .before .before .before .step-with .ensures) (c .before .before .before .before .before .before .before .before .before .pitch-mod .ensures) (c .before .before .before .before .before .before .before .before .amp-mod .ensures) (c .before .before .before .before .before .before .before .parameters .ensures) (c .before .before .before .before .render-with .ensures) (c .before .hash-output .ensures)
+returns c = block-played-of _ _ _ _ _ _ _ (c .before .before .before .before .before .before .before .before .before .before .before .step-with .ensures) (c .before .before .before .before .before .before .before .before .before .pitch-mod .ensures) (c .before .before .before .before .before .before .before .before .amp-mod .ensures) (c .before .before .before .before .before .before .before .parameters .ensures) (c .before .before .before .before .render-with .ensures) (c .before .hash-output .ensures)
 
 pub play-block-spec : {M : Type 1} → statement M
 play-block-spec =

@@ -9,10 +9,10 @@ use Rattle.identity.proofs.play_blocks.Statement.{statement}
 use Rattle.identity.proofs.play_blocks.Tie as tie
 
 abbrev Inv-loop : tie.InvT-loop
-Inv-loop lut high low note gate n s₀ i₀ s i = (i ≤ n) × (s ≡ blocksPlayed lut high low note gate i s₀)
+Inv-loop lut pairs high low note gate n s₀ i₀ s i = (i ≤ n) × (s ≡ blocksPlayed lut pairs high low note gate i s₀)
 
 abbrev μ-loop : tie.MeasureT-loop
-μ-loop lut high low note gate n s₀ i₀ s i = n - i
+μ-loop lut pairs high low note gate n s₀ i₀ s i = n - i
 
 loop-holds : tie.Need-loop-holds Inv-loop μ-loop
 unfolding blocksPlayed
@@ -28,7 +28,7 @@ loop-less : tie.Need-loop-less Inv-loop μ-loop
 loop-less c = omega arith
 
 loop-again : tie.Need-loop-again Inv-loop μ-loop
-loop-again c = (omega arith, played-next _ _ _ _ _ _ _ (c .before .before .loop .inv .1) (c .play-block .ensures))
+loop-again c = (omega arith, played-next _ _ _ _ _ _ _ _ (c .before .before .loop .inv .1) (c .play-block .ensures))
 
 returns : tie.Need-returns Inv-loop μ-loop
 returns c =

@@ -14,7 +14,7 @@ play-blocks-requires-2 : tie.Need-play-blocks-requires-2
 play-blocks-requires-2 c κs = search needs
 
 returns : tie.Need-returns
-returns c = note-played-of _ _ _ _ _ _ (c .before .before .set-up .ensures) (c .before .play-blocks .ensures) (c .play-blocks2 .ensures)
+returns c = note-played-of _ _ _ _ _ _ _ (c .before .before .set-up .ensures) (c .before .play-blocks .ensures) (c .play-blocks2 .ensures)
 
 pub play-note-spec : {M : Type 1} → statement M
 play-note-spec =

@@ -17,7 +17,7 @@ play-note-requires-3 c κs = search needs
 
 returns : tie.Need-returns
 unfolding decimal ofBits
-returns c = notes-played-of _ _ _ _ (c .before .before .play-note .ensures) (c .before .play-note2 .ensures) (c .play-note3 .ensures)
+returns c = notes-played-of _ _ _ _ _ (c .before .before .play-note .ensures) (c .before .play-note2 .ensures) (c .play-note3 .ensures)
 
 pub play-notes-spec : {M : Type 1} → statement M
 play-notes-spec =

@@ -19,8 +19,14 @@ int-to-float-fractional : tie.Need-int-to-float-fractional
 unfolding inFloat
 int-to-float-fractional c = subst T (sym (le-leb (c .before .args .phase % 8388608) 16777216 (omega arith))) tt
 
+mul-entry : tie.Need-mul-entry
+mul-entry c = search needs
+
 entry-requires : tie.Need-entry-requires
 entry-requires c κs = search needs
+
+mul-entry-2 : tie.Need-mul-entry-2
+mul-entry-2 c = search needs
 
 add-entry : tie.Need-add-entry
 add-entry c = search needs
@@ -32,7 +38,7 @@ returns : tie.Need-returns
 unfolding decimal ofBits
 returns c =
     let s = c .before .before .before in
-    line-is (now (s .args .lut)) (s .args .phase) (c .before .entry .ensures .0) (c .entry2 .ensures .0)
+    line-is (now (s .args .pairs)) (s .args .phase) (c .before .entry .ensures .0) (c .entry2 .ensures .0)
 
 pub line-spec : {M : Type 1} → statement M
 line-spec =
@@ -40,7 +46,9 @@ line-spec =
     (tie.spec
     cast-integral
     int-to-float-fractional
+    mul-entry
     entry-requires
+    mul-entry-2
     add-entry
     entry-requires-2
     returns)

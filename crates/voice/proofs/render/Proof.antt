@@ -4,8 +4,8 @@ use Rattle.voice.proofs.Blocks.{with-tables}
 use Rattle.voice.proofs.render.Statement.{statement}
 use Rattle.voice.proofs.render.Tie as tie
 
-lut-sine-requires : tie.Need-lut-sine-requires
-lut-sine-requires c κs = search needs
+sine-pairs-requires : tie.Need-sine-pairs-requires
+sine-pairs-requires c κs = search needs
 
 lut-pitch-ratio-high-requires : tie.Need-lut-pitch-ratio-high-requires
 lut-pitch-ratio-high-requires c κs = search needs
@@ -20,13 +20,13 @@ same-length : tie.Need-same-length
 same-length c = search needs
 
 returns : tie.Need-returns
-returns c = with-tables _ _ _ (c .before .before .before .before .before .before .before .before .before .lut-sine .ensures) (c .before .before .before .before .before .before .before .before .lut-pitch-ratio-high .ensures) (c .before .before .before .before .before .before .before .lut-pitch-ratio-low .ensures) (c .before .before .render-with .ensures)
+returns c = with-tables _ _ _ (c .before .before .before .before .before .before .before .before .before .sine-pairs .ensures) (c .before .before .before .before .before .before .before .before .lut-pitch-ratio-high .ensures) (c .before .before .before .before .before .before .before .lut-pitch-ratio-low .ensures) (c .before .before .render-with .ensures)
 
 pub render-spec : {M : Type 1} → statement M
 render-spec =
     tie.close
     (tie.spec
-    lut-sine-requires
+    sine-pairs-requires
     lut-pitch-ratio-high-requires
     lut-pitch-ratio-low-requires
     render-with-requires
