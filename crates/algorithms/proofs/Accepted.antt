@@ -1,6 +1,6 @@
--- What every accepted plan keeps to, by one walk along the row; then, that each operator is in exactly one call.
+-- What every plan of a row keeps to, by one walk along the row, and what an accepted one does; then, that each operator is in exactly one call.
 -- Assumes nothing.
-use mathlib.Core.Path.{_≡_, refl, sym, ap, _∙_}
+use mathlib.Core.Path.{_≡_, refl, sym, ap, subst, _∙_}
 use mathlib.Core.Bool.{Bool, true, false, cond, not, _&&_, _||_, true≢false, false≢true}
 use mathlib.Core.Logic.{_⊎_, inl, inr, ⊎-elim}
 use Prim.Native.Nat.{ℕ, zero, suc, _+_, _-_, _≤_, _<_}
@@ -10,7 +10,7 @@ use native.Mathlib.Numerals.{add-one}
 use native.Mathlib.Omega.{arith}
 use mathlib.Core.List.{List, [], _∷_}
 use lib.Dec.{eqb}
-use lib.ListN.{length, getD, set, take, length-set}
+use lib.ListN.{length, getD, set, take, length-set, length-take}
 use lib.Seq.{length-take-le, getD-set-same, getD-set-other}
 use borrow.Author.Tests.{eqb-true, eqb-false}
 use Rattle.algorithms.specs.Opcode.{source, adding}
@@ -20,7 +20,8 @@ use Rattle.algorithms.specs.Plan.{callOf, noCall, noPlan, reading, ready
 use Rattle.algorithms.specs.Accepted.{covered, Covering, In, Safe, Sound}
 use Rattle.algorithms.specs.declared.Call.{Call}
 use Rattle.algorithms.specs.declared.Plan.{Plan}
-use Rattle.algorithms.proofs.Lengths.{modulation-first, rendered-within}
+use Rattle.algorithms.specs.declared.Planned.{Planned}
+use Rattle.algorithms.proofs.Lengths.{cond-most, modulation-first, rendered-within}
 use Rattle.algorithms.proofs.Steps.{call-input, call-output, ready-before, counted-few}
 use Rattle.algorithms.proofs.Tables.{and-left, and-right}
 
@@ -92,7 +93,7 @@ renders-call operators os h = pick (renders operators os (callLength operators o
     pick false e h = absurd (h refl)
 
 call-sound : (operators first o : ℕ) (os : List ℕ) (c : Call) → c ≡ callOf first (rendered operators (o ∷ os)) (o ∷ os) → (rendered operators (o ∷ os) ≡ 0 → ⊥)
-    → first + suc (length os) ≡ operators → Sound operators c
+    → first + suc (length os) ≤ operators → Sound operators c
 unfolding callOf renders
 call-sound operators first o os c e h l =
     let n = rendered operators (o ∷ os) in
@@ -106,12 +107,16 @@ call-sound operators first o os c e h l =
 
 -- ---- the walk
 
+-- no call reads or adds to a scratch buffer that no earlier call has set
+abbrev pub SafePlan : Plan → Type 0
+SafePlan p = (k : ℕ) → k < p .count → Safe (p .calls) k
+
 -- a plan so far, whose calls end at operator `first`
 pub record Good (operators first : ℕ) (p : Plan) : Type 0 where
   pub slots : length (p .calls) ≡ 6
   pub fewer : p .count ≤ first
   pub covering : Covering (p .calls) (p .count) first
-  pub safe : (k : ℕ) → k < p .count → Safe (p .calls) k
+  pub safe : SafePlan p
   pub sound : (k : ℕ) → k < p .count → Sound operators (getD (p .calls) k noCall)
 
 none-below : (P : ℕ → Type 0) (k : ℕ) → k < 0 → P k
@@ -210,20 +215,23 @@ good-at operators i j p e g = rw (sym e) g
 positive : (n : ℕ) → eqb n 0 ≡ false → 1 ≤ n
 positive n e = let z = eqb-false n 0 e in omega arith
 
+-- where the calls end: at the row's end, `last`, or at once where the row is refused
+abbrev end : ℕ → Planned → ℕ
+end last q = cond (eqb (q .number) 0) last 0
+
 -- THE THEOREM along the row
-walk-good : (operators : ℕ) → operators ≤ 6 → (os : List ℕ) (inside first : ℕ) (p : Plan) → first + length os ≡ operators → inside ≤ length os → Good operators (first + inside) p
-    → planFrom operators inside first p os .number ≡ 0 → Good operators operators (planFrom operators inside first p os .plan)
+walk-good : (operators last : ℕ) → operators ≤ 6 → last ≤ operators → (os : List ℕ) (inside first : ℕ) (p : Plan) → first + length os ≡ last → inside ≤ length os
+    → Good operators (first + inside) p → Good operators (end last (planFrom operators inside first p os)) (planFrom operators inside first p os .plan)
 unfolding planFrom callOf
-walk-good operators h [] inside first p l i g e = good-at operators (first + inside) operators p (omega arith) g
-walk-good operators h (o ∷ os) (suc inside) first p l i g e =
-    walk-good operators h os inside (suc first) p (omega arith) (omega arith) (good-at operators (first + suc inside) (suc first + inside) p (omega arith) g) e
-walk-good operators h (o ∷ os) zero first p l i g e =
+walk-good operators last h t [] inside first p l i g = good-at operators (first + inside) last p (omega arith) g
+walk-good operators last h t (o ∷ os) (suc inside) first p l i g =
+    walk-good operators last h t os inside (suc first) p (omega arith) (omega arith) (good-at operators (first + suc inside) (suc first + inside) p (omega arith) g)
+walk-good operators last h t (o ∷ os) zero first p l i g =
     pick (eqb n 0) (unready (ready (p .calls) (p .count)) c) refl refl
-    (λ x y. walk-good operators h os (n - 1) (suc first) (extended p c) (omega arith) (omega (arith, rendered-within operators o os))
+    (λ x y. walk-good operators last h t os (n - 1) (suc first) (extended p c) (omega arith) (omega (arith, rendered-within operators o os))
     (good-at operators (first + n) (suc first + (n - 1)) (extended p c) (omega (arith, positive n x))
-    (good-more operators first n p c h (omega arith) refl refl (positive n x) (call-sound operators first o os c refl (eqb-false n 0 x) l) y
+    (good-more operators first n p c h (omega arith) refl refl (positive n x) (call-sound operators first o os c refl (eqb-false n 0 x) (omega arith)) y
     (good-at operators (first + 0) first p (add-zero first) g))))
-    e
   where
     n : ℕ
     n = rendered operators (o ∷ os)
@@ -231,28 +239,44 @@ walk-good operators h (o ∷ os) zero first p l i g e =
     c : Call
     c = callOf first n (o ∷ os)
 
+    next : Planned
+    next = planFrom operators (n - 1) (suc first) (extended p c) os
+
     pick : (b d : Bool) → eqb n 0 ≡ b → unready (ready (p .calls) (p .count)) c ≡ d
-        → (eqb n 0 ≡ false → unready (ready (p .calls) (p .count)) c ≡ false → planFrom operators (n - 1) (suc first) (extended p c) os .number ≡ 0 → Good operators operators (planFrom operators (n - 1) (suc first) (extended p c) os .plan))
-        → cond b (refusal 3 first) (cond d (refusal 4 first) (planFrom operators (n - 1) (suc first) (extended p c) os)) .number ≡ 0
-        → Good operators operators (cond b (refusal 3 first) (cond d (refusal 4 first) (planFrom operators (n - 1) (suc first) (extended p c) os)) .plan)
-    pick true d x y f e = absurd (omega arith)
-    pick false true x y f e = absurd (omega arith)
-    pick false false x y f e = f x y e
+        → (eqb n 0 ≡ false → unready (ready (p .calls) (p .count)) c ≡ false → Good operators (end last next) (next .plan))
+        → Good operators (end last (cond b (refusal 3 first) (cond d (refusal 4 first) next))) (cond b (refusal 3 first) (cond d (refusal 4 first) next) .plan)
+    pick true d x y f = good-start operators
+    pick false true x y f = good-start operators
+    pick false false x y f = f x y
+
+-- ---- the plan of a row, accepted or not, and however long the row is
+
+module _ (operators : ℕ) (row : List ℕ) where
+  planned-good : Good operators (end (length (take operators row)) (planned operators row)) (planned operators row .plan)
+  unfolding planned
+  planned-good = pick (counted operators) refl
+    where
+      pick : (b : Bool) → counted operators ≡ b
+          → Good operators (end (length (take operators row)) (cond b (planFrom operators 0 0 noPlan (take operators row)) (refusal 2 0))) (cond b (planFrom operators 0 0 noPlan (take operators row)) (refusal 2 0) .plan)
+      pick true x = walk-good operators _ (counted-few operators x) (omega (arith, length-take operators row)) (take operators row) 0 0 noPlan (omega arith) (omega arith) (good-start operators)
+      pick false x = good-start operators
+
+  -- no call reads or adds to a scratch buffer that no earlier call has set
+  pub planned-safe : SafePlan (planned operators row .plan)
+  planned-safe = planned-good .safe
+
+  -- every call has a renderer, four buffers and operators of the row
+  pub planned-sound : (k : ℕ) → k < planned operators row .plan .count → Sound operators (getD (planned operators row .plan .calls) k noCall)
+  planned-sound = planned-good .sound
+
+  -- and an operator or more
+  pub planned-some : (k : ℕ) → k < planned operators row .plan .count → 1 ≤ getD (planned operators row .plan .calls) k noCall .n
+  planned-some = planned-good .covering .some
+
+  pub planned-few : planned operators row .plan .count ≤ operators
+  planned-few = omega (arith, planned-good .fewer, length-take operators row, cond-most (eqb (planned operators row .number) 0) (length (take operators row)) 0 (length (take operators row)) (omega arith) (omega arith))
 
 -- ---- an accepted row
-
--- an accepted row has 4 or 6 operators, and its plan is good to the last of them
-pub accepted-good : (operators : ℕ) (row : List ℕ) → length row ≡ 6 → planned operators row .number ≡ 0 → Good operators operators (planned operators row .plan)
-unfolding planned
-accepted-good operators row l e = pick (counted operators) refl e
-  where
-    pick : (b : Bool) → counted operators ≡ b
-        → cond b (planFrom operators 0 0 noPlan (take operators row)) (refusal 2 0) .number ≡ 0
-        → Good operators operators (cond b (planFrom operators 0 0 noPlan (take operators row)) (refusal 2 0) .plan)
-    pick true x e =
-        let h = counted-few operators x in
-        walk-good operators h (take operators row) 0 0 noPlan (omega (arith, length-take-le operators row (omega arith))) (omega arith) (good-start operators) e
-    pick false x e = absurd (omega arith)
 
 pub accepted-six : (operators : ℕ) (row : List ℕ) → planned operators row .number ≡ 0 → operators ≤ 6
 unfolding planned
@@ -262,21 +286,10 @@ accepted-six operators row e = pick (counted operators) refl e
     pick true x e = counted-few operators x
     pick false x e = absurd (omega arith)
 
-module _ (operators : ℕ) (row : List ℕ) (l : length row ≡ 6) (e : planned operators row .number ≡ 0) where
-  -- the calls' spans cover the operators, in row order
-  pub accepted-covering : Covering (planned operators row .plan .calls) (planned operators row .plan .count) operators
-  accepted-covering = accepted-good operators row l e .covering
-
-  -- no accepted plan reads or adds to a scratch buffer that no earlier call has set
-  pub accepted-safe : (k : ℕ) → k < planned operators row .plan .count → Safe (planned operators row .plan .calls) k
-  accepted-safe = accepted-good operators row l e .safe
-
-  -- every call has a renderer, four buffers and operators of the row
-  pub accepted-sound : (k : ℕ) → k < planned operators row .plan .count → Sound operators (getD (planned operators row .plan .calls) k noCall)
-  accepted-sound = accepted-good operators row l e .sound
-
-  pub accepted-few : planned operators row .plan .count ≤ operators
-  accepted-few = accepted-good operators row l e .fewer
+-- the calls' spans cover the operators, in row order
+pub accepted-covering : (operators : ℕ) (row : List ℕ) → length row ≡ 6 → planned operators row .number ≡ 0 → Covering (planned operators row .plan .calls) (planned operators row .plan .count) operators
+accepted-covering operators row l e =
+    subst (Covering (planned operators row .plan .calls) (planned operators row .plan .count)) (rw e (length-take-le operators row (omega (arith, accepted-six operators row e)))) (planned-good operators row .covering)
 
 -- ---- each operator is in exactly one call
 

@@ -80,7 +80,7 @@ cond-least : (b : Bool) (x y n : ℕ) → n ≤ x → n ≤ y → n ≤ cond b x
 cond-least true x y n h k = h
 cond-least false x y n h k = k
 
-cond-most : (b : Bool) (x y n : ℕ) → x ≤ n → y ≤ n → cond b x y ≤ n
+pub cond-most : (b : Bool) (x y n : ℕ) → x ≤ n → y ≤ n → cond b x y ≤ n
 cond-most true x y n h k = h
 cond-most false x y n h k = k
 

@@ -5,4 +5,5 @@ pub mod Calls
 pub mod Steps
 pub mod Tables
 pub mod Same
+pub mod Together
 pub mod Accepted

@@ -32,7 +32,7 @@ call-equal f f′ n n′ i i′ o o′ a a′ x₁ x₂ x₃ x₄ x₅ = rw (x�
 plan-equal : (n n′ : ℕ) (cs ds : List Call) → n ≡ n′ → cs ≡ ds → _≡_ {A = Plan} (record { count = n; calls = cs }) (record { count = n′; calls = ds })
 plan-equal n n′ cs ds x y = rw (x, y)
 
-same-call-equal : (c d : Call) → sameCall c d ≡ true → c ≡ d
+pub same-call-equal : (c d : Call) → sameCall c d ≡ true → c ≡ d
 unfolding sameCall
 same-call-equal c d e =
     let e₁ = and-right (eqb (c .first) (d .first)) _ e in
@@ -63,7 +63,7 @@ same-plan-equal p q e =
     let y = same-calls-equal (p .calls) (q .calls) (and-right (eqb (p .count) (q .count)) (sameCalls (p .calls) (q .calls)) e) in
     plan-equal _ _ _ _ x y
 
-same-call-self : (c : Call) → sameCall c c ≡ true
+pub same-call-self : (c : Call) → sameCall c c ≡ true
 unfolding sameCall
 same-call-self c = rw (eq-eqb (c .first) (c .first) refl, eq-eqb (c .n) (c .n) refl, eq-eqb (c .input) (c .input) refl, eq-eqb (c .output) (c .output) refl) (beq-same (c .add))
 

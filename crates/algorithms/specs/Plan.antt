@@ -85,3 +85,12 @@ sameCalls (c ∷ cs) (d ∷ ds) = sameCall c d && sameCalls cs ds
 
 unfoldable pub samePlan : Plan → Plan → Bool
 samePlan p q = eqb (p .count) (q .count) && sameCalls (p .calls) (q .calls)
+
+-- a row is accepted, and this is its plan
+unfoldable pub isPlanOf : ℕ → List ℕ → Plan → Bool
+isPlanOf operators row plan = eqb (planned operators row .number) 0 && samePlan plan (planned operators row .plan)
+
+-- the plan of a plan's first k calls
+unfoldable pub firstCalls : ℕ → Plan → Plan
+firstCalls zero p = noPlan
+firstCalls (suc k) p = extended (firstCalls k p) (getD (p .calls) k noCall)

@@ -7,7 +7,7 @@ ghost use Prim.Native.Nat.{_+_, _≤_, _<_};
 ghost use lib.ListN.{length, getD, take};
 ghost use Rattle.algorithms.specs.Opcode.{destination, adding, source, flagged, modulating};
 ghost use Rattle.algorithms.specs.Chain.{rowFrom, Within, unmet, grown, chained, callLength, rendered};
-ghost use Rattle.algorithms.specs.Plan.{noCall, noPlan, callOf, reading, unready, planFrom, counted, planned, refusal, sameCall, samePlan};
+ghost use Rattle.algorithms.specs.Plan.{noCall, noPlan, callOf, reading, unready, planFrom, counted, planned, refusal, sameCall, samePlan, isPlanOf, firstCalls};
 ghost use Rattle.algorithms.specs.Table.{six, tabled, rowOf, withRow, compiled};
 
 // One call of a plan: n operators from `first` on, their input and output, and whether they add to the output or set it.
@@ -333,6 +333,57 @@ pub fn same_plan(a: Plan, b: Plan) -> bool
         k = k + 1;
     }
     true
+}
+
+// Whether a plan has k calls and nothing behind them.
+fn ends_at(plan: Plan, k: usize) -> bool
+    requires { ⌜ k ≤ 6 ⌝ }
+    ensures { λ r. ⌜ r ≡ samePlan plan (firstCalls k plan) ⌝ }
+{
+    if plan.count as usize != k {
+        return false;
+    }
+    let none = no_call();
+    let mut i = k;
+    while i < 6 {
+        let c = plan.calls[i];
+        if !same_call(c, none) {
+            return false;
+        }
+        i = i + 1;
+    }
+    true
+}
+
+// Whether a row is accepted and this is its plan. It walks the two together and builds no other plan.
+pub fn is_plan_of(operators: usize, row: [u8; 6], plan: Plan) -> bool
+    ensures { λ r. ⌜ r ≡ isPlanOf operators row plan ⌝ }
+{
+    if !is_counted(operators) {
+        return false;
+    }
+    let mut ready = [true, false, false, false];
+    let mut k = 0usize;
+    let mut first = 0usize;
+    while first < operators {
+        let n = get_renderer(operators, &row, first);
+        if n == 0 {
+            return false;
+        }
+        let c = call_of(operators, &row, first, n);
+        if is_unready(&ready, c) {
+            return false;
+        }
+        let d = plan.calls[k];
+        if !same_call(c, d) {
+            return false;
+        }
+        let output = c.output as usize;
+        ready[output] = true;
+        k = k + 1;
+        first = first + n;
+    }
+    ends_at(plan, k)
 }
 
 fn byte_at(part: &[u8], k: usize) -> u8

@@ -1,6 +1,7 @@
 -- An envelope of four stages, after envelope.rs: its start, its value and its render, with one rounding per written operation, in the Rust's order.
 -- `reshape` is true for an operator's envelope and false for pitch. A NaN compares false everywhere. Definitions only.
 use mathlib.Core.Bool.{Bool, _&&_, cond}
+use mathlib.Core.List.{List}
 use Prim.Native.Nat.{ℕ, _+_, _%_, _^_}
 use lib.Dec.{eqb, ltb}
 use lib.ListN.{getD}
@@ -9,6 +10,7 @@ use Rattle.numbers.specs.F32.{_⊕_, _⊖_, _⊗_, _⊘_, decimal, minusDecimal
 use Rattle.numbers.specs.Extremes.{maximum}
 use Rattle.stages.specs.Stages.{perStage, levelBefore, jump}
 use Rattle.envelope.specs.declared.Envelope.{Envelope}
+use Rattle.envelope.specs.declared.inner.Position.{Position}
 
 abbrev pub incrementAt : Envelope → ℕ → Float
 incrementAt e stage = getD (e .increment) stage nan
@@ -50,9 +52,13 @@ unfoldable pub segment : Bool → Float → Float → Float → Float
 segment reshape phase from to =
     cond (reshape && lt from to) (line (bent phase) (maximum jump from) (maximum jump to)) (line phase from to)
 
+-- the value at a phase of a stage, from the levels alone
+abbrev pub levelValue : Bool → List Float → ℕ → Float → Float → Float
+levelValue reshape level stage phase start = segment reshape phase (startOf (levelBefore level stage) start) (getD level stage nan)
+
 -- the value at a phase of a stage
 unfoldable pub valueAt : Bool → Envelope → ℕ → Float → Float → Float
-valueAt reshape e stage phase start = segment reshape phase (startOf (levelBefore (e .level) stage) start) (levelAt e stage)
+valueAt reshape e stage phase start = levelValue reshape (e .level) stage phase start
 
 -- the value now
 unfoldable pub currentValue : Bool → Envelope → Float
@@ -70,6 +76,10 @@ movedTo e stage phase start = record {
   level = e .level;
   scale = e .scale;
 }
+
+-- and at a position
+abbrev pub standing : Envelope → Position → Envelope
+standing e q = movedTo e (q .stage) (q .phase) (q .start)
 
 -- it leaves the value now for the start of a stage
 abbrev pub jumpedTo : Bool → Envelope → ℕ → Envelope

@@ -1,9 +1,14 @@
 // The functions of envelope.rs themselves, for callers that have checked their state.
-// Each promises its definition; where a stage picks a level or an increment, it is asked to be at most 3.
+// Each promises its definition; where a stage picks a level or an increment, it is asked to be at most 3. One that is given no
+// more than a position promises it for every envelope that stands there.
 ghost use mathlib.Core.Path.{_≡_};
+ghost use mathlib.Core.Bool.{cond};
 ghost use Prim.Native.Nat.{_≤_};
-ghost use Rattle.envelope.specs.Envelope.{startOf, segment, line, valueAt, currentValue};
-ghost use Rattle.envelope.specs.Envelope.{gated, movedTo, steppedPhase, advanced, rendered};
+ghost use lib.ListN.{getD};
+ghost use lib.Ieee.{nan};
+ghost use Rattle.envelope.specs.declared.Envelope.{Envelope};
+ghost use Rattle.envelope.specs.Envelope.{startOf, segment, line, levelValue, valueAt, currentValue};
+ghost use Rattle.envelope.specs.Envelope.{gated, movedTo, standing, steppedPhase, advanced, rendered};
 ghost use Rattle.envelope.specs.Scrub.{reached, pastStages, held, scrubbed};
 ghost use Rattle.envelope.specs.Set.{setTo, operatorSet, pitchSet};
 use super::Envelope;
@@ -62,7 +67,8 @@ fn hold(envelope: Envelope, reshape: bool, t: f32, gate_duration: f32) -> f32
     let reached = reach(envelope, t);
     let stage = reached.stage;
     if stage < 3 {
-        let phase = reached.t * envelope.increment[stage];
+        let increment = envelope.increment;
+        let phase = reached.t * pick(increment, stage);
         return value(envelope, reshape, stage, phase, PREVIOUS_LEVEL);
     }
     past_stages(envelope, reshape, reached.t - gate_duration)
@@ -75,7 +81,8 @@ fn reach(envelope: Envelope, t: f32) -> Reached
     let mut left = t;
     let mut stage = 0;
     while stage < 3 {
-        let duration = 1.0 / envelope.increment[stage];
+        let increment = envelope.increment;
+        let duration = 1.0 / pick(increment, stage);
         if left < duration {
             break;
         }
@@ -102,6 +109,14 @@ fn past_stages(envelope: Envelope, reshape: bool, t: f32) -> f32
     value(envelope, reshape, 3, phase, PREVIOUS_LEVEL)
 }
 
+// Where an envelope stands.
+pub struct Position {
+    pub stage: usize,
+    pub phase: f32,
+    pub start: f32,
+}
+
+// Where an envelope stands a call later: the position alone, so that the envelope itself is copied only where it is stored.
 pub fn render(
     envelope: Envelope,
     reshape: bool,
@@ -109,33 +124,89 @@ pub fn render(
     rate: f32,
     ad_scale: f32,
     release_scale: f32,
-) -> Envelope
+) -> Position
     requires { ⌜ envelope .stage ≤ 3 ⌝ }
-    ensures { λ r. ⌜ r ≡ rendered reshape gate rate «ad_scale» «release_scale» envelope ⌝ }
+    ensures { λ r. ⌜ movedTo envelope (r .stage) (r .phase) (r .start) ≡ rendered reshape gate rate «ad_scale» «release_scale» envelope ⌝ }
 {
-    let followed = follow(envelope, reshape, gate);
-    let phase = step(followed, rate, ad_scale, release_scale);
+    let level = envelope.level;
+    let increment = envelope.increment;
+    let q = Position {
+        stage: envelope.stage,
+        phase: envelope.phase,
+        start: envelope.start,
+    };
+    let followed = follow(level, q, reshape, gate);
+    let phase = step(increment, followed, rate, ad_scale, release_scale);
     advance(followed, phase)
 }
 
 // A gate that opens starts the first stage, and one that closes the last, from the value now.
-fn follow(envelope: Envelope, reshape: bool, gate: bool) -> Envelope
-    requires { ⌜ envelope .stage ≤ 3 ⌝ }
-    ensures { λ r. ⌜ r ≡ gated reshape gate envelope ⌝ }
+fn follow(level: [f32; 4], q: Position, reshape: bool, gate: bool) -> Position
+    requires { ⌜ q .stage ≤ 3 ⌝ }
+    ensures { λ r. ⌜ ((e : Envelope) → e .level ≡ level → standing e r ≡ gated reshape gate (standing e q)) ⌝ }
 {
-    if gate {
-        if envelope.stage == 3 {
-            return move_to(envelope, 0, 0.0, current_value(envelope, reshape));
-        }
-        return envelope;
+    if gate == (q.stage == 3) {
+        let start = value_at(level, reshape, q.stage, q.phase, q.start);
+        return Position {
+            stage: started(gate),
+            phase: 0.0,
+            start: start,
+        };
     }
-    if envelope.stage == 3 {
-        return envelope;
-    }
-    move_to(envelope, 3, 0.0, current_value(envelope, reshape))
+    q
 }
 
-fn move_to(envelope: Envelope, stage: usize, phase: f32, start: f32) -> Envelope
+// The stage that a gate starts.
+fn started(gate: bool) -> usize
+    ensures { λ r. ⌜ r ≡ cond gate 0 3 ⌝ }
+{
+    if gate {
+        return 0;
+    }
+    3
+}
+
+// The phase a call further.
+fn step(increment: [f32; 4], q: Position, rate: f32, ad_scale: f32, release_scale: f32) -> f32
+    requires { ⌜ q .stage ≤ 3 ⌝ }
+    ensures { λ r. ⌜ ((e : Envelope) → e .increment ≡ increment → r ≡ steppedPhase rate «ad_scale» «release_scale» (standing e q)) ⌝ }
+{
+    let stage = q.stage;
+    let stride = pick(increment, stage) * rate;
+    if stage == 3 {
+        return q.phase + stride * release_scale;
+    }
+    q.phase + stride * ad_scale
+}
+
+// At most one stage further, and nothing is kept of the phase past the stage's end.
+fn advance(q: Position, phase: f32) -> Position
+    ensures { λ r. ⌜ ((e : Envelope) → standing e r ≡ advanced phase (standing e q)) ⌝ }
+{
+    let stage = q.stage;
+    if phase >= 1.0 {
+        if stage < 2 {
+            return Position {
+                stage: stage + 1,
+                phase: 0.0,
+                start: PREVIOUS_LEVEL,
+            };
+        }
+        return Position {
+            stage: stage,
+            phase: 1.0,
+            start: PREVIOUS_LEVEL,
+        };
+    }
+    Position {
+        stage: stage,
+        phase: phase,
+        start: q.start,
+    }
+}
+
+// The same envelope at a phase of a stage.
+pub fn move_to(envelope: Envelope, stage: usize, phase: f32, start: f32) -> Envelope
     ensures { λ r. ⌜ r ≡ movedTo envelope stage phase start ⌝ }
 {
     let mut moved = envelope;
@@ -143,33 +214,6 @@ fn move_to(envelope: Envelope, stage: usize, phase: f32, start: f32) -> Envelope
     moved.phase = phase;
     moved.start = start;
     moved
-}
-
-// The phase a call further.
-fn step(envelope: Envelope, rate: f32, ad_scale: f32, release_scale: f32) -> f32
-    requires { ⌜ envelope .stage ≤ 3 ⌝ }
-    ensures { λ r. ⌜ r ≡ steppedPhase rate «ad_scale» «release_scale» envelope ⌝ }
-{
-    let stage = envelope.stage;
-    let increment = envelope.increment[stage] * rate;
-    if stage == 3 {
-        return envelope.phase + increment * release_scale;
-    }
-    envelope.phase + increment * ad_scale
-}
-
-// At most one stage further, and nothing is kept of the phase past the stage's end.
-fn advance(envelope: Envelope, phase: f32) -> Envelope
-    ensures { λ r. ⌜ r ≡ advanced phase envelope ⌝ }
-{
-    let stage = envelope.stage;
-    if phase >= 1.0 {
-        if stage < 2 {
-            return move_to(envelope, stage + 1, 0.0, PREVIOUS_LEVEL);
-        }
-        return move_to(envelope, stage, 1.0, PREVIOUS_LEVEL);
-    }
-    move_to(envelope, stage, phase, envelope.start)
 }
 
 pub fn current_value(envelope: Envelope, reshape: bool) -> f32
@@ -189,8 +233,34 @@ pub fn value(envelope: Envelope, reshape: bool, stage: usize, phase: f32, start_
     requires { ⌜ stage ≤ 3 ⌝ }
     ensures { λ r. ⌜ r ≡ valueAt reshape envelope stage phase «start_level» ⌝ }
 {
-    let from = start_of(envelope.level[(stage + 3) % 4], start_level);
-    segment(reshape, phase, from, envelope.level[stage])
+    let level = envelope.level;
+    value_at(level, reshape, stage, phase, start_level)
+}
+
+// The value from the levels alone.
+pub fn value_at(level: [f32; 4], reshape: bool, stage: usize, phase: f32, start_level: f32) -> f32
+    requires { ⌜ stage ≤ 3 ⌝ }
+    ensures { λ r. ⌜ r ≡ levelValue reshape level stage phase «start_level» ⌝ }
+{
+    let from = start_of(pick(level, (stage + 3) % 4), start_level);
+    segment(reshape, phase, from, pick(level, stage))
+}
+
+// One of four, by constant indexes: a variable one in a struct's array would have the whole struct copied to memory.
+fn pick(a: [f32; 4], i: usize) -> f32
+    requires { ⌜ i ≤ 3 ⌝ }
+    ensures { λ r. ⌜ r ≡ getD a i nan ⌝ }
+{
+    if i == 0 {
+        return a[0];
+    }
+    if i == 1 {
+        return a[1];
+    }
+    if i == 2 {
+        return a[2];
+    }
+    a[3]
 }
 
 // Where a stage starts: at the level before it, or at a level of its own.

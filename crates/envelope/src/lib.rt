@@ -87,7 +87,8 @@ pub fn render(
             value: 0.0,
         };
     }
-    let rendered = inner::render(envelope, reshape, gate, rate, ad_scale, release_scale);
+    let q = inner::render(envelope, reshape, gate, rate, ad_scale, release_scale);
+    let rendered = inner::move_to(envelope, q.stage, q.phase, q.start);
     Rendered {
         number: 0,
         envelope: rendered,

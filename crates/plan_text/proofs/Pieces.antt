@@ -14,7 +14,7 @@ use borrow.Author.Tests.{eq-eqb, ne-eqb, eqb-true}
 use Rattle.algorithms.specs.Plan.{noCall, planned}
 use Rattle.algorithms.specs.Table.{six}
 use Rattle.algorithms.specs.declared.Planned.{Planned}
-use Rattle.algorithms.proofs.Accepted.{accepted-six, accepted-few}
+use Rattle.algorithms.proofs.Accepted.{accepted-six, planned-few}
 use Rattle.algorithms.specs.declared.Call.{Call}
 use Rattle.plan_text.specs.Text.{Written, wordNone, wordAt, digit, atText, wordFeedback, wordExternal, hexDigit, bytesText, rowText, countText, sourceText, wayText, callText, callsText, refusalText, plannedText, planText}
 
@@ -104,10 +104,7 @@ module _ (bytes : List ℕ) (p : Planned) (e : p ≡ planned (length bytes) (six
   row-most z = accepted-six (length bytes) (six bytes) (ap (λ (x : Planned). x .number) (sym e) ∙ z)
 
   pub calls-most : p .number ≡ 0 → p .plan .count ≤ 6
-  unfolding six
-  calls-most z =
-      let k = accepted-few (length bytes) (six bytes) refl (ap (λ (x : Planned). x .number) (sym e) ∙ z) in
-      omega (arith, row-most z, ap (λ (x : Planned). x .plan .count) e)
+  calls-most z = omega (arith, row-most z, planned-few (length bytes) (six bytes), ap (λ (x : Planned). x .plan .count) e)
 
   module _ (before after : List ℕ) (r : ℕ) where
     pub refusal-printed : (p .number ≡ 0 → ⊥) → Written before 0 (refusalText (p .number) (p .at)) after r → Written before 0 (planText bytes) after r

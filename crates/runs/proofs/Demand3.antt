@@ -9,6 +9,7 @@ use lib.ListN.{length, take}
 use lib.Ieee.{Float}
 use Rattle.sine.specs.Pairs.{sinePairs}
 use Rattle.units.specs.Tables.{lutPitchRatioHigh, lutPitchRatioLow}
+use Rattle.algorithms.proofs.Accepted.{SafePlan, planned-safe}
 use Rattle.block.proofs.Same.{same-sound}
 use Rattle.voice.specs.declared.Voice.{Voice}
 use Rattle.voice.specs.declared.VoiceParameters.{VoiceParameters}
@@ -18,7 +19,7 @@ use Rattle.voice.specs.Answers.{stateFits, blockFits, parametersFit, Answered, 
 use Rattle.voice.proofs.Blocks.{stored, clean-has, block-whole}
 use Rattle.runs.specs.Run.{Call, State, Step, rendered, stepOf, run, ending}
 use Rattle.runs.specs.Alike.{output, Alike, equal, blocks, AllAlike, none, more, heard}
-use Rattle.runs.proofs.Plans.{SafePlan, planned-safe, ran-length}
+use Rattle.runs.proofs.Plans.{ran-length}
 
 -- ---- a block's answer, without the scratch
 

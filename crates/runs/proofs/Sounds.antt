@@ -27,7 +27,7 @@ use Rattle.patch.specs.Packed as packed
 use Rattle.algorithms.specs.Chain.{lastOperator, unmet, ends, grown, reused, chained, originFrom, modulation, known, renders, callLength}
 use Rattle.algorithms.specs.Chain as chain
 use Rattle.algorithms.specs.Opcode.{destination, adding, source, flagged, modulating}
-use Rattle.algorithms.specs.Plan.{callOf, reading, ready, unready, extended, planFrom, counted, planned, sameCall, sameCalls, samePlan}
+use Rattle.algorithms.specs.Plan.{callOf, reading, ready, unready, extended, planFrom, counted, planned, sameCall, sameCalls, samePlan, isPlanOf}
 use Rattle.algorithms.specs.Table.{six, tabled, rowOf, withRow, compiled}
 use Rattle.envelope.specs.Envelope.{initialised, previousLevel, startOf, line, segment, valueAt, currentValue, gated, steppedPhase, advanced}
 use Rattle.envelope.specs.Envelope as envelope
@@ -76,7 +76,7 @@ unfolding neg add sub mul div lt eq le ne isNan ofInt toUnsigned toSigned ofBits
     patchFits packed.within
     lastOperator unmet ends grown reused chained originFrom modulation known renders callLength chain.rendered
     destination adding source flagged modulating
-    callOf reading ready unready extended planFrom counted planned sameCall sameCalls samePlan
+    callOf reading ready unready extended planFrom counted planned sameCall sameCalls samePlan isPlanOf
     six tabled rowOf withRow compiled
     initialised previousLevel startOf jump line segment valueAt currentValue gated steppedPhase advanced envelope.bent envelope.rendered
     operatorStageLevel risingIncrement operatorStageIncrement operatorLevels operatorIncrements operatorSet pitchStageIncrement pitchLevels pitchIncrements pitchSet

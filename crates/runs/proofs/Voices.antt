@@ -17,7 +17,7 @@ use Rattle.algorithms.specs.declared.Call.{Call}
 use Rattle.algorithms.specs.declared.Plan.{Plan}
 use Rattle.algorithms.specs.declared.Compiled.{Compiled}
 use Rattle.algorithms.specs.Chain.{rendered}
-use Rattle.algorithms.specs.Plan.{callOf, noPlan, ready, unready, extended, refusal, planFrom, counted, planned, samePlan}
+use Rattle.algorithms.specs.Plan.{callOf, noPlan, ready, unready, extended, refusal, planFrom, counted, planned, samePlan, isPlanOf}
 use Rattle.algorithms.specs.Table.{tabled, rowOf, withRow, compiled}
 use Rattle.algorithms.proofs.Same.{same-plan-self}
 use Rattle.envelope.specs.Answers.{isStage}
@@ -130,7 +130,7 @@ small-no-nine n h = rw (ne-eqb n 9 (λ e. omega arith)) tt
 module _ (v : Voice) (t : T (stateFits v)) where
   with-patch-fits : (p : Patch) (row : List ℕ) (plan : Plan) → T (patchFits p) → planned (v .operators) row .number ≡ 0 → plan ≡ planned (v .operators) row .plan
       → T (stateFits (withPatch v true p row plan))
-  unfolding withPatch patchSound
+  unfolding withPatch patchSound isPlanOf
   with-patch-fits p row plan u e s =
       let f = state-fits v t in
       fits-state _ (record {

@@ -4,14 +4,13 @@ use mathlib.Core.Bool.{Bool, true, false, cond, _&&_}
 use mathlib.Core.List.{List}
 use Prim.Native.Nat.{ℕ, _≤_, _<_}
 use native.Mathlib.Omega.{arith}
-use borrow.Author.Tests.{le-leb, lt-leb, eqb-true, eq-eqb, ne-eqb}
+use borrow.Author.Tests.{le-leb, lt-leb, eqb-true}
 use lib.Dec.{T, eqb, leb, leb→le}
 use lib.Ieee.Fits.{and-l, and-r}
 use Rattle.patch.specs.declared.Patch.{Patch}
 use Rattle.patch.specs.Packed.{patchFits}
 use Rattle.algorithms.specs.declared.Plan.{Plan}
-use Rattle.algorithms.specs.declared.Planned.{Planned}
-use Rattle.algorithms.specs.Plan.{counted, planned, samePlan}
+use Rattle.algorithms.specs.Plan.{counted, planned, samePlan, isPlanOf}
 use Rattle.algorithms.proofs.Same.{same-plan-equal}
 use Rattle.envelope.specs.Answers.{isStage}
 use Rattle.voice_levels.specs.Levels.{allStages}
@@ -25,14 +24,9 @@ module _ (operators : ℕ) (p : Patch) (row : List ℕ) (plan : Plan) where
   unfolding patchSound
   no-patch h = simp h
 
-  module _ (fits : patchFits p ≡ true) {r : Planned} (e : r ≡ planned operators row) where
-    pub no-row : (r .number ≡ 0 → ⊥) → false ≡ patchSound operators p row plan
-    unfolding patchSound
-    no-row h = simp (fits, sym e, ne-eqb (r .number) 0 h)
-
-    pub same-as-row : r .number ≡ 0 → {b : Bool} → b ≡ samePlan plan (r .plan) → b ≡ patchSound operators p row plan
-    unfolding patchSound
-    same-as-row h s = simp (fits, sym e, eq-eqb (r .number) 0 h, s)
+  pub same-as-row : patchFits p ≡ true → {b : Bool} → b ≡ isPlanOf operators row plan → b ≡ patchSound operators p row plan
+  unfolding patchSound
+  same-as-row h e = simp (h, e)
 
 -- ---- a state
 
@@ -68,7 +62,7 @@ pub record Sound (operators : ℕ) (p : Patch) (row : List ℕ) (plan : Plan) : 
   pub same : plan ≡ planned operators row .plan
 
 pub patch-sound : (operators : ℕ) (p : Patch) (row : List ℕ) (plan : Plan) → T (patchSound operators p row plan) → Sound operators p row plan
-unfolding patchSound
+unfolding patchSound isPlanOf
 patch-sound operators p row plan t =
     let a = patchFits p in
     let b = eqb (planned operators row .number) 0 in

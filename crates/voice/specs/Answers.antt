@@ -11,7 +11,7 @@ use Rattle.patch.specs.Packed.{patchFits}
 use Rattle.limits.specs.Ranges.{between, sampleRateFits}
 use Rattle.algorithms.specs.declared.Plan.{Plan}
 use Rattle.algorithms.specs.declared.Compiled.{Compiled}
-use Rattle.algorithms.specs.Plan.{counted, planned, samePlan}
+use Rattle.algorithms.specs.Plan.{counted, isPlanOf}
 use Rattle.algorithms.specs.Table.{compiled}
 use Rattle.envelope.specs.Answers.{isStage}
 use Rattle.voice_levels.specs.Levels.{allStages}
@@ -26,8 +26,7 @@ use Rattle.voice.specs.Block.{Sounded, sounded}
 
 -- a stored patch that 6 accepts, a row that does not get 3 or 4, and that row's plan
 unfoldable pub patchSound : ℕ → Patch → List ℕ → Plan → Bool
-patchSound operators p row plan =
-    patchFits p && (eqb (planned operators row .number) 0 && samePlan plan (planned operators row .plan))
+patchSound operators p row plan = patchFits p && isPlanOf operators row plan
 
 -- else 9: operators 4 or 6, no stage above 3, with a patch a sound one, without one dirty
 unfoldable pub stateFits : Voice → Bool

@@ -143,12 +143,7 @@ fn patch_sound(operators: usize, patch: Patch, row: [u8; 6], plan: Plan) -> bool
     if limits::check(patch) != 0 {
         return false;
     }
-    let planned = algorithms::compile_row(operators, row);
-    if planned.number != 0 {
-        return false;
-    }
-    let other = planned.plan;
-    algorithms::same_plan(plan, other)
+    algorithms::is_plan_of(operators, row, plan)
 }
 
 // Number 9.

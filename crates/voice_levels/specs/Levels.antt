@@ -13,7 +13,7 @@ use Rattle.conversions.specs.Units.{rateScaling, keyboardScaling, ampModSensiti
 use Rattle.conversions.specs.declared.Ratio.{Ratio}
 use Rattle.conversions.specs.declared.Ratio.the-variants.{Note, Hertz}
 use Rattle.envelope.specs.declared.Envelope.{Envelope}
-use Rattle.envelope.specs.Envelope.{rendered, currentValue}
+use Rattle.envelope.specs.Envelope.{movedTo, rendered, currentValue}
 use Rattle.envelope.specs.Scrub.{scrubbed}
 use Rattle.envelope.specs.Answers.{isStage}
 use Rattle.patch.specs.declared.Operator.{Operator}
@@ -23,8 +23,10 @@ use Rattle.voice_setup.specs.declared.Tuned.{Tuned}
 use Rattle.voice_setup.specs.Setup.{envelopeAt}
 use Rattle.voice_levels.specs.declared.Timing.{Timing}
 use Rattle.voice_levels.specs.declared.Followed.{Followed}
+use Rattle.voice_levels.specs.declared.Placed.{Placed}
 use Rattle.voice_levels.specs.declared.Scene.{Scene}
 use Rattle.voice_levels.specs.declared.Leveled.{Leveled}
+use Rattle.voice_levels.specs.declared.Raised.{Raised}
 use Rattle.voice_levels.specs.declared.Levels.{Levels}
 
 -- ---- envelopes
@@ -48,6 +50,10 @@ followed t reshape rate e =
     cond (t .sustain)
     (record { envelope = e; value = scrubbed 1 reshape e (t .«envelope_sample») (t .«gate_duration») })
     (record { envelope = r; value = currentValue reshape r })
+
+-- an envelope taken to where it stands then
+abbrev pub taken : Envelope → Placed → Followed
+taken e p = record { envelope = movedTo e (p .stage) (p .phase) (p .start); value = p .value }
 
 -- ---- frequencies
 
@@ -77,12 +83,15 @@ scalingOf g o headroom opcode =
     let velocity = g .«normalized_velocity» ⊗ asFloat (o .«velocity_sensitivity») in
     decimal 125 3 ⊗ minimum (keyboard ⊕ velocity ⊕ brightnessOf (g .brightness) opcode) headroom
 
+-- what the amplitude modulation leaves of a level
+abbrev pub levelModOf : Float → Float
+levelModOf logLevelMod = decimal 1 0 ⊖ pow2Fast (decimal 64 1 ⊗ logLevelMod) (pos 2)
+
 -- the amplitude of a level, with the amplitude modulation by an operator's sensitivity
 unfoldable pub amplitudeOf : Float → ℕ → Float → Float
 amplitudeOf ampMod sensitivity level =
     let logLevelMod = ampModSensitivity sensitivity ⊗ ampMod ⊖ decimal 1 0 in
-    let levelMod = decimal 1 0 ⊖ pow2Fast (decimal 64 1 ⊗ logLevelMod) (pos 2) in
-    pow2Fast (minusDecimal 14 0 ⊕ level ⊗ levelMod) (pos 2)
+    pow2Fast (minusDecimal 14 0 ⊕ level ⊗ levelModOf logLevelMod) (pos 2)
 
 -- ---- operators
 
@@ -115,6 +124,37 @@ module _ (g : Scene) (ops : List Operator) (ratios : List Tuned) (headrooms : Li
   leveledTo zero = record { «operator_envelope» = es; steps = replicate 6 0; amplitudes = replicate 6 (decimal 0 0) }
   leveledTo (suc k) =
       putAt k (leveled g (operatorAt ops k) (getD ratios k noTuned) (getD headrooms k nan) (getD row k 0) (envelopeAt es k)) (leveledTo k)
+
+-- ---- the same in two steps
+
+-- first an operator's envelope, its step, and its level in the amplitude's place
+unfoldable pub raised : Scene → Operator → Tuned → Float → ℕ → Envelope → Leveled
+raised g o tuned headroom opcode e =
+    let rate = g .timing .«envelope_rate» ⊗ rateScaling (g .note) (o .«rate_scaling») in
+    let f = followed (g .timing) true rate e in
+    record { envelope = f .envelope; step = stepFor (frequencyOf g tuned); amplitude = f .value ⊕ scalingOf g o headroom opcode }
+
+-- an envelope taken to where it stands then
+abbrev pub raisedBy : Envelope → Raised → Leveled
+raisedBy e r = record { envelope = movedTo e (r .stage) (r .phase) (r .start); step = r .step; amplitude = r .level }
+
+module _ (g : Scene) (ops : List Operator) (ratios : List Tuned) (headrooms : List Float) (row : List ℕ) (es : List Envelope) where
+  unfoldable pub raisedTo : ℕ → Levels
+  raisedTo zero = record { «operator_envelope» = es; steps = replicate 6 0; amplitudes = replicate 6 (decimal 0 0) }
+  raisedTo (suc k) = putAt k (raised g (operatorAt ops k) (getD ratios k noTuned) (getD headrooms k nan) (getD row k 0) (envelopeAt es k)) (raisedTo k)
+
+-- then the amplitudes of the first levels
+module _ (g : Scene) (ops : List Operator) where
+  abbrev pub soundedAt : ℕ → Levels → Levels
+  soundedAt k l = record {
+    «operator_envelope» = l .«operator_envelope»;
+    steps = l .steps;
+    amplitudes = set (l .amplitudes) k (amplitudeOf (g .«amp_mod») (operatorAt ops k .«amp_mod_sensitivity») (getD (l .amplitudes) k nan));
+  }
+
+  unfoldable pub soundedTo : Levels → ℕ → Levels
+  soundedTo l zero = l
+  soundedTo l (suc k) = soundedAt k (soundedTo l k)
 
 -- no envelope has a stage above 3
 unfoldable pub allStages : List Envelope → Bool

@@ -3,12 +3,15 @@
 ghost use mathlib.Core.Path.{_≡_};
 ghost use Prim.Native.Nat.{_≤_};
 ghost use lib.Dec.{T};
-ghost use Rattle.patch.specs.Packed.{operatorFits, operatorsFit};
-ghost use Rattle.voice_levels.specs.Levels.{timingFor, followed, noteFrequency, frequencyOf, scalingOf, amplitudeOf};
-ghost use Rattle.voice_levels.specs.Levels.{brightnessOf, leveled, leveledTo, allStages};
+ghost use Rattle.patch.specs.Packed.{operatorsFit};
+ghost use Rattle.voice_levels.specs.Levels.{timingFor, followed, noteFrequency, frequencyOf, scalingOf, levelModOf, amplitudeOf};
+ghost use Rattle.voice_levels.specs.Levels.{brightnessOf, taken, raised, raisedTo, raisedBy, soundedTo, leveledTo, allStages};
 use conversions::Ratio;
 use envelope::Envelope;
 use voice_setup::Tuned;
+
+// What is left of a level where there is no amplitude modulation: 1 less the power of -6.4.
+const LEVEL_MOD_AT_REST: f32 = 0.9881440401;
 
 // How the envelopes run in a block: scrubbed to a sample, or on by a rate.
 pub struct Timing {
@@ -24,6 +27,14 @@ pub struct Timing {
 // An envelope after a block, and its value there.
 pub struct Followed {
     pub envelope: Envelope,
+    pub value: f32,
+}
+
+// Where an envelope stands after a block, and its value there.
+pub struct Placed {
+    pub stage: usize,
+    pub phase: f32,
+    pub start: f32,
     pub value: f32,
 }
 
@@ -43,6 +54,15 @@ pub struct Leveled {
     pub envelope: Envelope,
     pub step: u32,
     pub amplitude: f32,
+}
+
+// The same before its level is an amplitude, with no more of its envelope than where it stands.
+pub struct Raised {
+    pub stage: usize,
+    pub phase: f32,
+    pub start: f32,
+    pub step: u32,
+    pub level: f32,
 }
 
 // And of all.
@@ -83,6 +103,19 @@ pub fn follow(t: Timing, reshape: bool, rate: f32, e: Envelope) -> Followed
     requires { ⌜ e .stage ≤ 3 ⌝ }
     ensures { λ r. ⌜ r ≡ followed t reshape rate e ⌝ }
 {
+    let p = place(t, reshape, rate, e);
+    let envelope = envelope::inner::move_to(e, p.stage, p.phase, p.start);
+    Followed {
+        envelope,
+        value: p.value,
+    }
+}
+
+// Where it stands then: the envelope itself is copied only where it is stored.
+fn place(t: Timing, reshape: bool, rate: f32, e: Envelope) -> Placed
+    requires { ⌜ e .stage ≤ 3 ⌝ }
+    ensures { λ r. ⌜ taken e r ≡ followed t reshape rate e ⌝ }
+{
     if t.sustain {
         let value = envelope::inner::render_at_sample(
             e,
@@ -90,11 +123,22 @@ pub fn follow(t: Timing, reshape: bool, rate: f32, e: Envelope) -> Followed
             t.envelope_sample,
             t.gate_duration,
         );
-        return Followed { envelope: e, value };
+        return Placed {
+            stage: e.stage,
+            phase: e.phase,
+            start: e.start,
+            value,
+        };
     }
-    let envelope = envelope::inner::render(e, reshape, t.gate, rate, t.ad_scale, t.release_scale);
-    let value = envelope::inner::current_value(envelope, reshape);
-    Followed { envelope, value }
+    let q = envelope::inner::render(e, reshape, t.gate, rate, t.ad_scale, t.release_scale);
+    let level = e.level;
+    let value = envelope::inner::value_at(level, reshape, q.stage, q.phase, q.start);
+    Placed {
+        stage: q.stage,
+        phase: q.phase,
+        start: q.start,
+        value,
+    }
 }
 
 // The note's frequency in turns a sample, with the pitch modulation in octaves.
@@ -150,42 +194,101 @@ fn scaling(g: Scene, op: patch::Operator, level_headroom: f32, opcode: u8) -> f3
     0.125 * numbers::f32_min(kb_scaling + velocity_scaling + brightness, level_headroom)
 }
 
+// What the amplitude modulation leaves of a level; at rest it is a constant.
+fn level_mod(log_level_mod: f32) -> f32
+    ensures { λ r. ⌜ r ≡ levelModOf «log_level_mod» ⌝ }
+{
+    if log_level_mod == -1.0 {
+        return LEVEL_MOD_AT_REST;
+    }
+    1.0 - conversions::pow_2_fast(6.4 * log_level_mod, 2)
+}
+
 // The amplitude of a level, with the amplitude modulation.
 fn amplitude(amp_mod: f32, sensitivity: u8, level: f32) -> f32
     requires { ⌜ sensitivity ≤ 3 ⌝ }
     ensures { λ r. ⌜ r ≡ amplitudeOf «amp_mod» sensitivity level ⌝ }
 {
     let log_level_mod = conversions::amp_mod_sensitivity(sensitivity) * amp_mod - 1.0;
-    let level_mod = 1.0 - conversions::pow_2_fast(6.4 * log_level_mod, 2);
-    conversions::pow_2_fast(-14.0 + level * level_mod, 2)
+    conversions::pow_2_fast(-14.0 + level * level_mod(log_level_mod), 2)
 }
 
-fn level_operator(
+// An operator's envelope, step and level.
+fn raise_operator(
     g: Scene,
     op: patch::Operator,
     tuned: Tuned,
     level_headroom: f32,
     opcode: u8,
     e: Envelope,
-) -> Leveled
-    requires { ⌜ (e .stage ≤ 3) × T (operatorFits op) ⌝ }
-    ensures { λ r. ⌜ r ≡ leveled g op tuned «level_headroom» opcode e ⌝ }
+) -> Raised
+    requires { ⌜ e .stage ≤ 3 ⌝ }
+    ensures { λ r. ⌜ raisedBy e r ≡ raised g op tuned «level_headroom» opcode e ⌝ }
 {
     let step = conversions::frequency_step(frequency(g, tuned));
     let t = g.timing;
     let rate = t.envelope_rate * conversions::rate_scaling(g.note, op.rate_scaling);
-    let f = follow(t, true, rate, e);
-    let level = f.value + scaling(g, op, level_headroom, opcode);
-    let amplitude = amplitude(g.amp_mod, op.amp_mod_sensitivity, level);
-    let envelope = f.envelope;
-    Leveled {
-        envelope,
+    let p = place(t, true, rate, e);
+    let level = p.value + scaling(g, op, level_headroom, opcode);
+    Raised {
+        stage: p.stage,
+        phase: p.phase,
+        start: p.start,
         step,
-        amplitude,
+        level,
     }
 }
 
-// The first `operators` of six; the others keep their envelopes, and their steps and amplitudes are 0.
+// The first operators' envelopes and steps, and in the amplitudes' place their levels.
+fn raise_operators(
+    g: Scene,
+    operators: usize,
+    op: [patch::Operator; 6],
+    ratios: [Tuned; 6],
+    level_headroom: [f32; 6],
+    row: [u8; 6],
+    operator_envelope: [Envelope; 6],
+) -> Levels
+    requires { ⌜ (operators ≤ 6) × T (allStages «operator_envelope») ⌝ }
+    ensures { λ r. ⌜ r ≡ raisedTo g op ratios «level_headroom» row «operator_envelope» operators ⌝ }
+{
+    let mut l = Levels {
+        operator_envelope,
+        steps: [0u32; 6],
+        amplitudes: [0.0f32; 6],
+    };
+    let mut i = 0usize;
+    while i < operators {
+        let o = op[i];
+        let tuned = ratios[i];
+        let e = operator_envelope[i];
+        let one = raise_operator(g, o, tuned, level_headroom[i], row[i], e);
+        let envelope = envelope::inner::move_to(e, one.stage, one.phase, one.start);
+        l.operator_envelope[i] = envelope;
+        l.steps[i] = one.step;
+        l.amplitudes[i] = one.level;
+        i = i + 1;
+    }
+    l
+}
+
+// The first operators' amplitudes, of their levels.
+fn sound_levels(g: Scene, operators: usize, op: [patch::Operator; 6], levels: Levels) -> Levels
+    requires { ⌜ (operators ≤ 6) × T (operatorsFit op) ⌝ }
+    ensures { λ r. ⌜ r ≡ soundedTo g op levels operators ⌝ }
+{
+    let mut l = levels;
+    let mut i = 0usize;
+    while i < operators {
+        let o = op[i];
+        l.amplitudes[i] = amplitude(g.amp_mod, o.amp_mod_sensitivity, l.amplitudes[i]);
+        i = i + 1;
+    }
+    l
+}
+
+// The first `operators` of six; the others keep their envelopes, and their steps and amplitudes are 0. Two loops, so that the
+// processor overlaps the operators in each.
 pub fn level_operators(
     g: Scene,
     operators: usize,
@@ -198,22 +301,14 @@ pub fn level_operators(
     requires { ⌜ (operators ≤ 6) × T (operatorsFit op) × T (allStages «operator_envelope») ⌝ }
     ensures { λ r. ⌜ r ≡ leveledTo g op ratios «level_headroom» row «operator_envelope» operators ⌝ }
 {
-    let mut l = Levels {
+    let l = raise_operators(
+        g,
+        operators,
+        op,
+        ratios,
+        level_headroom,
+        row,
         operator_envelope,
-        steps: [0u32; 6],
-        amplitudes: [0.0f32; 6],
-    };
-    let mut i = 0usize;
-    while i < operators {
-        let o = op[i];
-        let tuned = ratios[i];
-        let e = operator_envelope[i];
-        let one = level_operator(g, o, tuned, level_headroom[i], row[i], e);
-        let envelope = one.envelope;
-        l.operator_envelope[i] = envelope;
-        l.steps[i] = one.step;
-        l.amplitudes[i] = one.amplitude;
-        i = i + 1;
-    }
-    l
+    );
+    sound_levels(g, operators, op, l)
 }

@@ -1,4 +1,5 @@
 -- `envelope::render` meets its contract. Assumes nothing.
+use mathlib.Core.Path.{_∙_}
 use borrow.Author.Tests.{lt-leb, le-leb}
 use lib.Ieee.{round, ofBits}
 use Rattle.numbers.specs.F32.{decimal}
@@ -15,12 +16,16 @@ returns c = simp (lt-leb _ _ (c .if1 .taken))
 render-requires : tie.Need-render-requires
 render-requires c κs = search needs
 
+move-to-requires : tie.Need-move-to-requires
+move-to-requires c κs = search needs
+
 current-value-requires : tie.Need-current-value-requires
-current-value-requires c κs = rw (c .render .ensures) (rendered-stage _ _ _ _ _ _ (c .before .if1 .left))
+current-value-requires c κs = rw (c .move-to .ensures ∙ c .before .render .ensures) (rendered-stage _ _ _ _ _ _ (c .before .before .if1 .left))
 
 returns-2 : tie.Need-returns-2
 unfolding renderAnswer
-returns-2 c = simp (le-leb _ _ (c .before .before .if1 .left), c .current-value .ensures, c .before .render .ensures)
+returns-2 c = simp (le-leb _ _ (c .before .before .before .if1 .left), c .current-value .ensures, c .before .move-to .ensures ∙ c .before .before .render .ensures)
 
 pub render-spec : {M : Type 1} → statement M
-render-spec = tie.close (tie.spec returns render-requires current-value-requires returns-2)
+render-spec =
+    tie.close (tie.spec returns render-requires move-to-requires current-value-requires returns-2)

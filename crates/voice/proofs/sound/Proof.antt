@@ -1,17 +1,13 @@
 -- `voice::sound` meets its contract. Assumes nothing.
 use native.Mathlib.Omega.{arith}
 use borrow.Author.Needs.{needs}
-use mathlib.Core.Path.{_≡_, sym, subst}
-use lib.ListN.{length}
+use mathlib.Core.Path.{sym, subst}
 use Rattle.block.specs.Calls.{Playable}
 use Rattle.block.proofs.Accepted.{accepted-playable}
 use Rattle.voice.proofs.States.{state-fits}
 use Rattle.voice.proofs.Blocks.{count-at-most-6, operators-of, stored, clean-has, block-small, block-whole, sounded-of}
 use Rattle.voice.proofs.sound.Statement.{statement}
 use Rattle.voice.proofs.sound.Tie as tie
-
-row-length : (c : tie.Start) → length (c .args .v .row) ≡ 6
-row-length c = let g = c .good .1 .1 .1 .0 .1 .1 .1 .1 .1 .1 .1 .1 .1 .1 .1 .1 .1 .1 .1 .1 .1 in search needs
 
 cast-begin : tie.Need-cast-begin
 cast-begin c = let small = block-small _ (c .before .pre .2) in omega arith
@@ -32,7 +28,7 @@ run-plan-requires : tie.Need-run-plan-requires
 run-plan-requires c κs =
     let start = c .before .before .before .before .before .before .before .before .before .before .before .before .before .before .before .before in
     let sound = stored _ (start .pre .0) (clean-has _ (start .pre .0) (start .pre .1)) in
-    (subst Playable (sym (sound .same)) (accepted-playable _ _ (row-length start) (sound .accepted)), block-small _ (start .pre .2), block-whole _ (start .pre .2))
+    (subst Playable (sym (sound .same)) (accepted-playable _ _ (sound .accepted)), block-small _ (start .pre .2), block-whole _ (start .pre .2))
 
 leave-requires : tie.Need-leave-requires
 leave-requires c κs = search needs

@@ -9,17 +9,17 @@ use Rattle.voice_levels.proofs.amplitude.Tie as tie
 amp-mod-sensitivity-requires : tie.Need-amp-mod-sensitivity-requires
 amp-mod-sensitivity-requires c κs = search needs
 
+level-mod-requires : tie.Need-level-mod-requires
+level-mod-requires c κs = search needs
+
 pow-2-fast-requires : tie.Need-pow-2-fast-requires
 pow-2-fast-requires c κs = search needs
 
-pow-2-fast-requires-2 : tie.Need-pow-2-fast-requires-2
-pow-2-fast-requires-2 c κs = search needs
-
 returns : tie.Need-returns
 unfolding amplitudeOf decimal minusDecimal ofBits neg
-returns c = simp (c .pow-2-fast2 .ensures, c .before .pow-2-fast .ensures, c .before .before .amp-mod-sensitivity .ensures)
+returns c = simp (c .pow-2-fast .ensures, c .before .level-mod .ensures, c .before .before .amp-mod-sensitivity .ensures)
 
 pub amplitude-spec : {M : Type 1} → statement M
 amplitude-spec =
     tie.close
-    (tie.spec amp-mod-sensitivity-requires pow-2-fast-requires pow-2-fast-requires-2 returns)
+    (tie.spec amp-mod-sensitivity-requires level-mod-requires pow-2-fast-requires returns)

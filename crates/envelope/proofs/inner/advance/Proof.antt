@@ -7,38 +7,20 @@ use borrow.Author.Needs.{needs}
 use Rattle.envelope.proofs.inner.advance.Statement.{statement}
 use Rattle.envelope.proofs.inner.advance.Tie as tie
 
-add-move-to : tie.Need-add-move-to
-add-move-to c = search needs
-
-move-to-requires : tie.Need-move-to-requires
-move-to-requires c κs = search needs
+add-t6 : tie.Need-add-t6
+add-t6 c = search needs
 
 returns : tie.Need-returns
 unfolding advanced previousLevel decimal minusDecimal round ofBits
-returns c = simp (c .before .before .if1 .taken, lt-ltb _ _ (c .before .if2 .taken)) (c .move-to .ensures)
-
-move-to-requires-2 : tie.Need-move-to-requires-2
-move-to-requires-2 c κs = search needs
+returns c = λ e. simp (c .before .if1 .taken, lt-ltb _ _ (c .if2 .taken))
 
 returns-2 : tie.Need-returns-2
 unfolding advanced previousLevel decimal minusDecimal round ofBits
-returns-2 c = simp (c .before .before .if1 .taken, le-ltb _ _ (c .before .if2 .left)) (c .move-to2 .ensures)
-
-move-to-requires-3 : tie.Need-move-to-requires-3
-move-to-requires-3 c κs = search needs
+returns-2 c = λ e. simp (c .before .if1 .taken, le-ltb _ _ (c .if2 .left))
 
 returns-3 : tie.Need-returns-3
 unfolding advanced decimal round ofBits
-returns-3 c = simp (c .before .if1 .left) (c .move-to3 .ensures)
+returns-3 c = λ e. simp (c .if1 .left)
 
 pub advance-spec : {M : Type 1} → statement M
-advance-spec =
-    tie.close
-    (tie.spec
-    add-move-to
-    move-to-requires
-    returns
-    move-to-requires-2
-    returns-2
-    move-to-requires-3
-    returns-3)
+advance-spec = tie.close (tie.spec add-t6 returns returns-2 returns-3)

@@ -1,49 +1,30 @@
 -- `envelope::inner::follow` meets its contract. Assumes nothing.
-use borrow.Author.Tests.{eq-eqb, ne-eqb}
-use lib.Ieee.{round, ofBits}
+use mathlib.Core.Path.{sym, ap, _∙_}
+use mathlib.Core.List.{List}
+use lib.Ieee.{Float, round, ofBits}
 use Rattle.numbers.specs.F32.{decimal}
-use Rattle.envelope.specs.Envelope.{gated}
+use Rattle.envelope.specs.Envelope.{levelValue}
+use Rattle.envelope.proofs.Positions.{gate-jumps, gate-stays}
 use borrow.Author.Needs.{needs}
 use Rattle.envelope.proofs.inner.follow.Statement.{statement}
 use Rattle.envelope.proofs.inner.follow.Tie as tie
 
-current-value-requires : tie.Need-current-value-requires
-current-value-requires c κs = search needs
+value-at-requires : tie.Need-value-at-requires
+value-at-requires c κs = search needs
 
-move-to-requires : tie.Need-move-to-requires
-move-to-requires c κs = search needs
+started-requires : tie.Need-started-requires
+started-requires c κs = search needs
 
 returns : tie.Need-returns
-unfolding gated decimal round ofBits
-returns c = simp (c .before .before .before .before .if1 .taken, eq-eqb _ _ (c .before .before .if2 .taken), c .move-to .ensures, c .before .current-value .ensures)
+unfolding decimal round ofBits
+returns c =
+    let a = c .before .before .before .before .args in
+    let q = a .q in
+    λ e h. gate-jumps (a .reshape) (a .gate) e q (c .before .before .if1 .taken) (c .started .ensures)
+    (c .before .value-at .ensures ∙ ap (λ (l : List Float). levelValue (a .reshape) l (q .stage) (q .phase) (q .start)) (sym h))
 
 returns-2 : tie.Need-returns-2
-unfolding gated
-returns-2 c = simp (c .before .before .if1 .taken, ne-eqb _ _ (c .if2 .left))
-
-returns-3 : tie.Need-returns-3
-unfolding gated
-returns-3 c = simp (c .before .before .if1 .left, eq-eqb _ _ (c .if3 .taken))
-
-current-value-requires-2 : tie.Need-current-value-requires-2
-current-value-requires-2 c κs = search needs
-
-move-to-requires-2 : tie.Need-move-to-requires-2
-move-to-requires-2 c κs = search needs
-
-returns-4 : tie.Need-returns-4
-unfolding gated decimal round ofBits
-returns-4 c = simp (c .before .before .before .before .if1 .left, ne-eqb _ _ (c .before .before .if3 .left), c .move-to2 .ensures, c .before .current-value2 .ensures)
+returns-2 c = let a = c .before .before .args in λ e h. gate-stays (a .reshape) (a .gate) e (a .q) (c .if1 .left)
 
 pub follow-spec : {M : Type 1} → statement M
-follow-spec =
-    tie.close
-    (tie.spec
-    current-value-requires
-    move-to-requires
-    returns
-    returns-2
-    returns-3
-    current-value-requires-2
-    move-to-requires-2
-    returns-4)
+follow-spec = tie.close (tie.spec value-at-requires started-requires returns returns-2)

@@ -12,19 +12,16 @@ use Rattle.envelope.proofs.inner.hold.Tie as tie
 reach-requires : tie.Need-reach-requires
 reach-requires c κs = search needs
 
-mul-phase : tie.Need-mul-phase
-mul-phase c = search needs
-
-element-copy-out-phase : tie.Need-element-copy-out-phase
-element-copy-out-phase c = search needs
+pick-requires : tie.Need-pick-requires
+pick-requires c κs = search needs
 
 value-requires : tie.Need-value-requires
 value-requires c κs = search needs
 
 returns : tie.Need-returns
 unfolding held previousLevel minusDecimal round ofBits
-returns c = let at-then = c .before .before .before in
-    simp (sym (at-then .before .reach .ensures), lt-ltb _ _ (at-then .if1 .taken)) (c .value .ensures)
+returns c = let at-then = c .before .before .before .before in
+    simp (sym (at-then .before .reach .ensures), lt-ltb _ _ (at-then .if1 .taken)) (rw (c .before .before .pick .ensures) at (c .value .ensures))
 
 past-stages-requires : tie.Need-past-stages-requires
 past-stages-requires c κs = search needs
@@ -37,11 +34,4 @@ returns-2 c = let at-else = c .before .before in
 pub hold-spec : {M : Type 1} → statement M
 hold-spec =
     tie.close
-    (tie.spec
-    reach-requires
-    mul-phase
-    element-copy-out-phase
-    value-requires
-    returns
-    past-stages-requires
-    returns-2)
+    (tie.spec reach-requires pick-requires value-requires returns past-stages-requires returns-2)

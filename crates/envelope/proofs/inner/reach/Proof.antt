@@ -11,19 +11,16 @@ use Rattle.envelope.proofs.inner.reach.Statement.{statement}
 use Rattle.envelope.proofs.inner.reach.Tie as tie
 
 abbrev Inv-loop : tie.InvT-loop
-Inv-loop t envelope left₀ stage₀ left stage = (stage ≤ 3) × (reached (3 - stage) stage (envelope .increment) left ≡ reached 3 0 (envelope .increment) t)
+Inv-loop envelope t left₀ stage₀ left stage = (stage ≤ 3) × (reached (3 - stage) stage (envelope .increment) left ≡ reached 3 0 (envelope .increment) t)
 
 abbrev μ-loop : tie.MeasureT-loop
-μ-loop t envelope left₀ stage₀ left stage = 3 - stage
+μ-loop envelope t left₀ stage₀ left stage = 3 - stage
 
 loop-holds : tie.Need-loop-holds Inv-loop μ-loop
 loop-holds c = (omega arith, refl)
 
-mul-duration : tie.Need-mul-duration Inv-loop μ-loop
-mul-duration c = omega arith
-
-element-copy-out-duration : tie.Need-element-copy-out-duration Inv-loop μ-loop
-element-copy-out-duration c = omega arith
+pick-requires : tie.Need-pick-requires Inv-loop μ-loop
+pick-requires c κs = omega arith
 
 add-stage : tie.Need-add-stage Inv-loop μ-loop
 add-stage c = omega arith
@@ -33,19 +30,20 @@ loop-less c = omega arith
 
 loop-again : tie.Need-loop-again Inv-loop μ-loop
 unfolding decimal round ofBits
-loop-again c = let at-loop = c .before .before .before in
+loop-again c = let at-loop = c .before .before .before .before in
     let stage = at-loop .loop .stage in
-    (omega arith, sym (reached-on (3 - stage) stage (at-loop .before .args .t1 .increment) (at-loop .loop .left) (3 - (stage + 1)) (omega arith) (c .if1 .left)) ∙ at-loop .loop .inv .1)
+    let picked = c .before .pick .ensures in
+    (omega arith, rw picked (sym (reached-on (3 - stage) stage (at-loop .before .args .envelope .increment) (at-loop .loop .left) (3 - (stage + 1)) (omega arith) (rw picked at (c .if1 .left))) ∙ at-loop .loop .inv .1))
 
 returns : tie.Need-returns Inv-loop μ-loop
 returns c = let at-loop = c .before in
-    sym (reached-last (3 - at-loop .loop .stage) (at-loop .loop .stage) (at-loop .before .args .t1 .increment) (at-loop .loop .left) (omega arith)) ∙ at-loop .loop .inv .1
+    sym (reached-last (3 - at-loop .loop .stage) (at-loop .loop .stage) (at-loop .before .args .envelope .increment) (at-loop .loop .left) (omega arith)) ∙ at-loop .loop .inv .1
 
 returns-2 : tie.Need-returns-2 Inv-loop μ-loop
 unfolding decimal round ofBits
-returns-2 c = let at-loop = c .before .before .before in
+returns-2 c = let at-loop = c .before .before .before .before in
     let stage = at-loop .loop .stage in
-    sym (reached-here (3 - stage) stage (at-loop .before .args .t1 .increment) (at-loop .loop .left) (3 - (stage + 1)) (omega arith) (c .if1 .taken)) ∙ at-loop .loop .inv .1
+    sym (reached-here (3 - stage) stage (at-loop .before .args .envelope .increment) (at-loop .loop .left) (3 - (stage + 1)) (omega arith) (rw (c .before .pick .ensures) at (c .if1 .taken))) ∙ at-loop .loop .inv .1
 
 pub reach-spec : {M : Type 1} → statement M
 reach-spec =
@@ -54,8 +52,7 @@ reach-spec =
     Inv-loop
     μ-loop
     loop-holds
-    mul-duration
-    element-copy-out-duration
+    pick-requires
     add-stage
     loop-less
     loop-again

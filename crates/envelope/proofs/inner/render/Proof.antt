@@ -1,6 +1,6 @@
 -- `envelope::inner::render` meets its contract. Assumes nothing.
-use Rattle.envelope.specs.Envelope.{rendered}
-use Rattle.envelope.proofs.Laws.{gated-stage}
+use mathlib.Core.Path.{refl}
+use Rattle.envelope.proofs.Positions.{followed-stage, rendered-of}
 use borrow.Author.Needs.{needs}
 use Rattle.envelope.proofs.inner.render.Statement.{statement}
 use Rattle.envelope.proofs.inner.render.Tie as tie
@@ -9,14 +9,21 @@ follow-requires : tie.Need-follow-requires
 follow-requires c κs = search needs
 
 step-requires : tie.Need-step-requires
-step-requires c κs = rw (c .follow .ensures) (gated-stage _ _ _ (c .before .pre))
+step-requires c κs =
+    let s = c .before .before .before in
+    let a = s .args in
+    followed-stage (a .reshape) (a .gate) (a .rate) (a .ad-scale) (a .release-scale) (a .envelope) (c .follow .ensures (a .envelope) refl) (s .pre)
 
 advance-requires : tie.Need-advance-requires
 advance-requires c κs = search needs
 
 returns : tie.Need-returns
-unfolding rendered
-returns c = simp (c .advance .ensures, c .before .step .ensures, c .before .before .follow .ensures)
+returns c =
+    let f = c .before .before in
+    let a = f .before .before .before .args in
+    let e = a .envelope in
+    rendered-of (a .reshape) (a .gate) (a .rate) (a .ad-scale) (a .release-scale) e
+    (f .follow .ensures e refl) (c .before .step .ensures e refl) (c .advance .ensures e)
 
 pub render-spec : {M : Type 1} → statement M
 render-spec = tie.close (tie.spec follow-requires step-requires advance-requires returns)

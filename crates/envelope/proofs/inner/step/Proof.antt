@@ -5,19 +5,16 @@ use borrow.Author.Needs.{needs}
 use Rattle.envelope.proofs.inner.step.Statement.{statement}
 use Rattle.envelope.proofs.inner.step.Tie as tie
 
-mul-increment : tie.Need-mul-increment
-mul-increment c = search needs
-
-element-copy-out-increment : tie.Need-element-copy-out-increment
-element-copy-out-increment c = search needs
+pick-requires : tie.Need-pick-requires
+pick-requires c κs = search needs
 
 returns : tie.Need-returns
 unfolding steppedPhase
-returns c = simp (eq-eqb _ _ (c .if1 .taken))
+returns c = λ e h. simp (h, eq-eqb _ _ (c .before .if1 .taken), c .before .before .pick .ensures)
 
 returns-2 : tie.Need-returns-2
 unfolding steppedPhase
-returns-2 c = simp (ne-eqb _ _ (c .if1 .left))
+returns-2 c = λ e h. simp (h, ne-eqb _ _ (c .before .if1 .left), c .before .before .pick .ensures)
 
 pub step-spec : {M : Type 1} → statement M
-step-spec = tie.close (tie.spec mul-increment element-copy-out-increment returns returns-2)
+step-spec = tie.close (tie.spec pick-requires returns returns-2)
