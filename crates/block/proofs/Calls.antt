@@ -17,7 +17,7 @@ use Rattle.operator.specs.Chain.Source.{none, external, feedback}
 use Rattle.block.specs.Quarters.{split, joined}
 use Rattle.block.specs.Calls.{chainAt, settled, sourceOf, Desk, desk, called, calledUpTo, setting, ran}
 use Rattle.block.specs.declared.Operators.{Operators}
-use Rattle.block.specs.declared.Setting.{Setting}
+use Rattle.block.specs.Calls.{Setting}
 use Rattle.block.proofs.Quarters.{read-at, write-at, joined-split}
 
 -- ---- what modulates a call

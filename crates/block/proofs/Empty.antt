@@ -14,7 +14,7 @@ use Rattle.operator.specs.declared.Operator.{Operator}
 use Rattle.block.specs.Quarters.{split, joined}
 use Rattle.block.specs.Calls.{noOperator, laneAt, lanesAt, chainAt, putAt, putAll, settled, desk, called, calledUpTo, setting, ran}
 use Rattle.block.specs.declared.Operators.{Operators}
-use Rattle.block.specs.declared.Setting.{Setting}
+use Rattle.block.specs.Calls.{Setting}
 
 -- what stands somewhere, set there again
 set-again : {A : Type 0} (l : List A) (i : ℕ) (d : A) → set l i (getD l i d) ≡ l

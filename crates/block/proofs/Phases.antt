@@ -21,7 +21,7 @@ use Rattle.operator.specs.declared.Lane.{Lane}
 use Rattle.operator.proofs.Phases.{noLane, length-ended, phase-ended}
 use Rattle.block.specs.Calls.{noOperator, laneAt, lanesAt, chainAt, putAt, putAll, settled, sourceOf, Desk, desk, called, calledUpTo, setting, ran}
 use Rattle.block.specs.declared.Operators.{Operators}
-use Rattle.block.specs.declared.Setting.{Setting}
+use Rattle.block.specs.Calls.{Setting}
 use Rattle.block.proofs.Quarters.{size-split}
 use Rattle.block.proofs.Same.{plan-size}
 

@@ -21,7 +21,7 @@ use Rattle.operator.proofs.Blind.{length-written, set-ignores}
 use Rattle.block.specs.Quarters.{split, joined}
 use Rattle.block.specs.Calls.{chainAt, sourceOf, Desk, desk, called, calledUpTo, setting, ran}
 use Rattle.block.specs.declared.Operators.{Operators}
-use Rattle.block.specs.declared.Setting.{Setting}
+use Rattle.block.specs.Calls.{Setting}
 
 -- ---- a call: the quarter that it reads matters only where it reads, and what stood there only where it adds
 

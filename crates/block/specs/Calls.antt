@@ -16,9 +16,15 @@ use Rattle.operator.specs.declared.Operator.{Operator}
 use Rattle.operator.specs.declared.Lane.{Lane}
 use Rattle.block.specs.Quarters.{split, joined}
 use Rattle.block.specs.declared.Operators.{Operators}
-use Rattle.block.specs.declared.Setting.{Setting}
 
 -- ---- a call's operators
+
+-- what stays the same over a block: each operator's step and target, and the two scales
+pub record Setting : Type 0 where
+  pub steps : List ℕ
+  pub amplitudes : List Float
+  pub ramp : Float
+  pub feedback : Float
 
 -- what stands past the last operator: nothing asks for it
 abbrev pub noOperator : Operator

@@ -12,7 +12,7 @@ use Rattle.algorithms.specs.declared.Plan.{Plan}
 use Rattle.block.specs.Quarters.{split, joined}
 use Rattle.block.specs.Calls.{Desk, desk, called, calledUpTo, setting, ran}
 use Rattle.block.specs.declared.Operators.{Operators}
-use Rattle.block.specs.declared.Setting.{Setting}
+use Rattle.block.specs.Calls.{Setting}
 use Rattle.block.proofs.Quarters.{joined-split}
 use Rattle.block.proofs.Same.{plan-size}
 

@@ -18,11 +18,11 @@ use Rattle.voice_setup.specs.Setup.{envelopeAt}
 use Rattle.voice_levels.specs.declared.Followed.{Followed}
 use Rattle.voice_levels.specs.declared.Placed.{Placed}
 use Rattle.voice_levels.specs.declared.Scene.{Scene}
-use Rattle.voice_levels.specs.declared.Leveled.{Leveled}
+use Rattle.voice_levels.specs.Levels.{Leveled}
 use Rattle.voice_levels.specs.declared.Raised.{Raised}
 use Rattle.voice_levels.specs.declared.Levels.{Levels}
 use Rattle.voice_levels.specs.Levels.{followed, taken, frequencyOf, scalingOf, amplitudeOf, putAt, noTuned}
-use Rattle.voice_levels.specs.Levels.{raised, raisedBy, raisedTo, soundedAt, soundedTo}
+use Rattle.voice_levels.specs.Levels.{raised, raisedBy, raisedTo, soundedTo}
 
 pub raised-of : (g : Scene) (o : Operator) (tuned : Tuned) (headroom : Float) (opcode : ℕ) (e : Envelope) {hz scale s : Float} {step : ℕ} {p : Placed}
     → hz ≡ frequencyOf g tuned
@@ -48,9 +48,9 @@ unfolding raisedTo
 raised-next g ops ratios headrooms row es k el er ee = rw (add-one k, el, ee, ← er)
 
 -- one amplitude more
-pub sounded-next : (g : Scene) (ops : List Operator) (levels : Levels) (k : ℕ) {l : Levels} {a : Float}
+pub sounded-next : (g : Scene) (ops : List Operator) (levels : List Float) (k : ℕ) {l : List Float} {a : Float}
     → l ≡ soundedTo g ops levels k
-    → a ≡ amplitudeOf (g .«amp_mod») (operatorAt ops k .«amp_mod_sensitivity») (getD (l .amplitudes) k nan)
-    → record { «operator_envelope» = l .«operator_envelope»; steps = l .steps; amplitudes = set (l .amplitudes) k a } ≡ soundedTo g ops levels (k + 1)
+    → a ≡ amplitudeOf (g .«amp_mod») (operatorAt ops k .«amp_mod_sensitivity») (getD l k nan)
+    → set l k a ≡ soundedTo g ops levels (k + 1)
 unfolding soundedTo
-sounded-next g ops levels k el ea = rw (add-one k, ea) (ap (soundedAt g ops k) el)
+sounded-next g ops levels k el ea = rw (add-one k, ea, el)

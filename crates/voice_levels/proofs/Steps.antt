@@ -11,9 +11,9 @@ use Rattle.patch.specs.Form.{operatorAt}
 use Rattle.voice_setup.specs.declared.Tuned.{Tuned}
 use Rattle.voice_setup.specs.Setup.{envelopeAt}
 use Rattle.voice_levels.specs.declared.Scene.{Scene}
-use Rattle.voice_levels.specs.declared.Leveled.{Leveled}
+use Rattle.voice_levels.specs.Levels.{Leveled}
 use Rattle.voice_levels.specs.declared.Levels.{Levels}
-use Rattle.voice_levels.specs.Levels.{amplitudeOf, leveled, putAt, noTuned, leveledTo, raised, raisedTo, soundedAt, soundedTo}
+use Rattle.voice_levels.specs.Levels.{amplitudeOf, leveled, putAt, noTuned, leveledTo, raised, raisedTo, soundedTo}
 
 module _ (f : Float → Float) where
   -- an element put in its place and changed there
@@ -29,37 +29,45 @@ module _ (f : Float → Float) where
   set-earlier (y ∷ xs) zero (suc n) x h = refl
   set-earlier (y ∷ xs) (suc k) (suc n) x h = ap (λ (l : List Float). y ∷ l) (set-earlier xs k n x (omega arith))
 
+module _ (g : Scene) (ops : List Operator) where
+  -- an operator's amplitude of a level
+  abbrev at : ℕ → Float → Float
+  at k = amplitudeOf (g .«amp_mod») (operatorAt ops k .«amp_mod_sensitivity»)
+
+  -- the first amplitudes do not ask for a later level
+  sounded-put : (n : ℕ) (x : Float) (xs : List Float) (k : ℕ) → k ≤ n → soundedTo g ops (set xs n x) k ≡ set (soundedTo g ops xs k) n x
+  unfolding soundedTo
+  sounded-put n x xs zero h = refl
+  sounded-put n x xs (suc k) h =
+      ap (λ (s : List Float). set s k (at k (getD s k nan))) (sounded-put n x xs k (omega arith))
+      ∙ set-earlier (at k) (soundedTo g ops xs k) k n x (omega arith)
+
+  -- and its own is the amplitude of its level
+  sounded-last : (n : ℕ) (x : Float) (xs : List Float) → soundedTo g ops (set xs n x) (suc n) ≡ set (soundedTo g ops xs n) n (at n x)
+  unfolding soundedTo
+  sounded-last n x xs =
+      ap (λ (s : List Float). set s n (at n (getD s n nan))) (sounded-put n x xs n (omega arith))
+      ∙ set-changed (at n) (soundedTo g ops xs n) n x
+
 -- levels with other amplitudes
 abbrev with-amplitudes : Levels → List Float → Levels
 with-amplitudes l amplitudes = record { «operator_envelope» = l .«operator_envelope»; steps = l .steps; amplitudes = amplitudes }
 
-module _ (g : Scene) (ops : List Operator) where
-  -- the first amplitudes do not ask for a later operator
-  sounded-put : (n : ℕ) (one : Leveled) (l : Levels) (k : ℕ) → k ≤ n → soundedTo g ops (putAt n one l) k ≡ putAt n one (soundedTo g ops l k)
-  unfolding soundedTo putAt
-  sounded-put n one l zero h = refl
-  sounded-put n one l (suc k) h =
-      let s = soundedTo g ops l k in
-      let amplitude = amplitudeOf (g .«amp_mod») (operatorAt ops k .«amp_mod_sensitivity») in
-      ap (soundedAt g ops k) (sounded-put n one l k (omega arith))
-      ∙ ap (with-amplitudes (putAt n one s)) (set-earlier amplitude (s .amplitudes) k n (one .amplitude) (omega arith))
-
-  -- and its own is the amplitude of its level
-  sounded-last : (n : ℕ) (l : Levels) (tuned : Tuned) (headroom : Float) (opcode : ℕ) (e : Envelope)
-      → soundedAt g ops n (putAt n (raised g (operatorAt ops n) tuned headroom opcode e) l) ≡ putAt n (leveled g (operatorAt ops n) tuned headroom opcode e) l
-  unfolding raised leveled putAt
-  sounded-last n l tuned headroom opcode e =
-      let one = raised g (operatorAt ops n) tuned headroom opcode e in
-      let amplitude = amplitudeOf (g .«amp_mod») (operatorAt ops n .«amp_mod_sensitivity») in
-      ap (with-amplitudes (putAt n one l)) (set-changed amplitude (l .amplitudes) n (one .amplitude))
-
 module _ (g : Scene) (ops : List Operator) (ratios : List Tuned) (headrooms : List Float) (row : List ℕ) (es : List Envelope) where
+  abbrev to : ℕ → Levels
+  to = raisedTo g ops ratios headrooms row es
+
   -- the two steps together
-  pub sounded-raised : (n : ℕ) → soundedTo g ops (raisedTo g ops ratios headrooms row es n) n ≡ leveledTo g ops ratios headrooms row es n
-  unfolding soundedTo raisedTo leveledTo
+  sounded-raised : (n : ℕ) → with-amplitudes (to n) (soundedTo g ops (to n .amplitudes) n) ≡ leveledTo g ops ratios headrooms row es n
+  unfolding raisedTo leveledTo raised leveled putAt soundedTo
   sounded-raised zero = refl
   sounded-raised (suc n) =
-      let one = raised g (operatorAt ops n) (getD ratios n noTuned) (getD headrooms n nan) (getD row n 0) (envelopeAt es n) in
-      ap (soundedAt g ops n) (sounded-put g ops n one (raisedTo g ops ratios headrooms row es n) n (omega arith))
-      ∙ ap (λ (l : Levels). soundedAt g ops n (putAt n one l)) (sounded-raised n)
-      ∙ sounded-last g ops n (leveledTo g ops ratios headrooms row es n) (getD ratios n noTuned) (getD headrooms n nan) (getD row n 0) (envelopeAt es n)
+      let o = operatorAt ops n in
+      let one = leveled g o (getD ratios n noTuned) (getD headrooms n nan) (getD row n 0) (envelopeAt es n) in
+      let level = raised g o (getD ratios n noTuned) (getD headrooms n nan) (getD row n 0) (envelopeAt es n) .amplitude in
+      ap (with-amplitudes (to (suc n))) (sounded-last g ops n level (to n .amplitudes))
+      ∙ ap (putAt n one) (sounded-raised n)
+
+  pub sounded-is-leveled : (n : ℕ) {l : Levels} {amplitudes : List Float} → l ≡ to n → amplitudes ≡ soundedTo g ops (l .amplitudes) n
+      → with-amplitudes l amplitudes ≡ leveledTo g ops ratios headrooms row es n
+  sounded-is-leveled n el ea = rw (ea, el) (sounded-raised n)

@@ -25,7 +25,6 @@ use Rattle.voice_levels.specs.declared.Timing.{Timing}
 use Rattle.voice_levels.specs.declared.Followed.{Followed}
 use Rattle.voice_levels.specs.declared.Placed.{Placed}
 use Rattle.voice_levels.specs.declared.Scene.{Scene}
-use Rattle.voice_levels.specs.declared.Leveled.{Leveled}
 use Rattle.voice_levels.specs.declared.Raised.{Raised}
 use Rattle.voice_levels.specs.declared.Levels.{Levels}
 
@@ -96,6 +95,11 @@ amplitudeOf ampMod sensitivity level =
 -- ---- operators
 
 -- what a block makes of one operator
+pub record Leveled : Type 0 where
+  pub envelope : Envelope
+  pub step : ℕ
+  pub amplitude : Float
+
 unfoldable pub leveled : Scene → Operator → Tuned → Float → ℕ → Envelope → Leveled
 leveled g o tuned headroom opcode e =
     let rate = g .timing .«envelope_rate» ⊗ rateScaling (g .note) (o .«rate_scaling») in
@@ -145,16 +149,11 @@ module _ (g : Scene) (ops : List Operator) (ratios : List Tuned) (headrooms : Li
 
 -- then the amplitudes of the first levels
 module _ (g : Scene) (ops : List Operator) where
-  abbrev pub soundedAt : ℕ → Levels → Levels
-  soundedAt k l = record {
-    «operator_envelope» = l .«operator_envelope»;
-    steps = l .steps;
-    amplitudes = set (l .amplitudes) k (amplitudeOf (g .«amp_mod») (operatorAt ops k .«amp_mod_sensitivity») (getD (l .amplitudes) k nan));
-  }
-
-  unfoldable pub soundedTo : Levels → ℕ → Levels
-  soundedTo l zero = l
-  soundedTo l (suc k) = soundedAt k (soundedTo l k)
+  unfoldable pub soundedTo : List Float → ℕ → List Float
+  soundedTo levels zero = levels
+  soundedTo levels (suc k) =
+      let s = soundedTo levels k in
+      set s k (amplitudeOf (g .«amp_mod») (operatorAt ops k .«amp_mod_sensitivity») (getD s k nan))
 
 -- no envelope has a stage above 3
 unfoldable pub allStages : List Envelope → Bool

@@ -49,13 +49,6 @@ pub struct Scene {
     pub amp_mod: f32,
 }
 
-// What a block makes of one operator.
-pub struct Leveled {
-    pub envelope: Envelope,
-    pub step: u32,
-    pub amplitude: f32,
-}
-
 // The same before its level is an amplitude, with no more of its envelope than where it stands.
 pub struct Raised {
     pub stage: usize,
@@ -273,7 +266,7 @@ fn raise_operators(
 }
 
 // The first operators' amplitudes, of their levels.
-fn sound_levels(g: Scene, operators: usize, op: [patch::Operator; 6], levels: Levels) -> Levels
+fn sound_levels(g: Scene, operators: usize, op: [patch::Operator; 6], levels: [f32; 6]) -> [f32; 6]
     requires { ⌜ (operators ≤ 6) × T (operatorsFit op) ⌝ }
     ensures { λ r. ⌜ r ≡ soundedTo g op levels operators ⌝ }
 {
@@ -281,7 +274,7 @@ fn sound_levels(g: Scene, operators: usize, op: [patch::Operator; 6], levels: Le
     let mut i = 0usize;
     while i < operators {
         let o = op[i];
-        l.amplitudes[i] = amplitude(g.amp_mod, o.amp_mod_sensitivity, l.amplitudes[i]);
+        l[i] = amplitude(g.amp_mod, o.amp_mod_sensitivity, l[i]);
         i = i + 1;
     }
     l
@@ -301,7 +294,7 @@ pub fn level_operators(
     requires { ⌜ (operators ≤ 6) × T (operatorsFit op) × T (allStages «operator_envelope») ⌝ }
     ensures { λ r. ⌜ r ≡ leveledTo g op ratios «level_headroom» row «operator_envelope» operators ⌝ }
 {
-    let l = raise_operators(
+    let mut l = raise_operators(
         g,
         operators,
         op,
@@ -310,5 +303,8 @@ pub fn level_operators(
         row,
         operator_envelope,
     );
-    sound_levels(g, operators, op, l)
+    let levels = l.amplitudes;
+    let amplitudes = sound_levels(g, operators, op, levels);
+    l.amplitudes = amplitudes;
+    l
 }

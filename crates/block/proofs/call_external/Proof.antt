@@ -1,14 +1,15 @@
 -- `block::call_external` meets its contract: what is rendered into its part is what `called` says.
 -- Assumes nothing.
-use mathlib.Core.Path.{_≡_, sym, ap, _∙_}
+use mathlib.Core.Path.{_≡_}
 use native.Mathlib.Omega.{arith}
 use denote.Ref.{now}
 use borrow.Author.Needs.{needs}
-use Rattle.operator.specs.Chain.{one}
 use Rattle.operator.specs.Chain.Source.{external}
-use Rattle.block.specs.Calls.{chainAt}
+use Rattle.operator.specs.Chain.{one}
+use Rattle.block.specs.State.{stateOf, settingOf}
 use Rattle.block.proofs.Quarters.{aside-at}
 use Rattle.block.proofs.Calls.{source-external, call-law}
+use Rattle.block.proofs.State.{external-keeps, quiet-back, chain-as, still-lent}
 use Rattle.block.proofs.call_external.Statement.{statement}
 use Rattle.block.proofs.call_external.Tie as tie
 
@@ -66,8 +67,11 @@ part-render-external-end-2 c = search needs
 render-external-requires : tie.Need-render-external-requires
 render-external-requires c κs = search needs
 
-single-back-requires : tie.Need-single-back-requires
-single-back-requires c κs = omega (arith, c .before .before .before .before .before .before .before .before .before .before .before .before .before .before .before .before .before)
+cast-i : tie.Need-cast-i
+cast-i c = search needs
+
+put-back-requires : tie.Need-put-back-requires
+put-back-requires c κs = omega (arith, c .before .before .before .before .before .before .before .before .before .before .before .before .before .before .before .before .before .before .before .before .before .before .before)
 
 same-length : tie.Need-same-length
 same-length c = search needs
@@ -77,19 +81,25 @@ same-length-2 c = search needs
 
 returns : tie.Need-returns
 returns c =
-    let back = c .single-back in
-    let rendered = c .before .before .before .render-external in
-    let of = c .before .before .before .before .before .before .before .single-of in
-    let start = c .before .before .before .before .before .before .before .before .start2 in
-    let at = c .before .before .before .before .before .before .before .before .before .before .before .before .before .before .before .before .before .before in
+    let back = c .put-back in
+    let rendered = c .before .before .before .before .before .before .before .render-external in
+    let of = c .before .before .before .before .before .before .before .before .before .before .before .single-of in
+    let start = c .before .before .before .before .before .before .before .before .before .before .before .before .before .before .start2 in
+    let at = c .before .before .before .before .before .before .before .before .before .before .before .before .before .before .before .before .before .before .before .before .before .before .before .before in
     let call = at .args .c in
-    let aside = c .before .before .before .before .before .before .before .before .before .before .before .copy-aside in
-    let from = c .before .before .before .before .before .before .before .before .before .before .before .before .before .before .before .start in
+    let aside = c .before .before .before .before .before .before .before .before .before .before .before .before .before .before .before .before .before .copy-aside in
+    let from = c .before .before .before .before .before .before .before .before .before .before .before .before .before .before .before .before .before .before .before .before .before .start in
     let modulation = aside-at (at .args .n) (call .input) (from .result) (now (at .args .block)) (at .pre .0 .input) (at .pre .1 .whole) (from .ensures .0) (aside .last .1 .0) (aside .ensures) in
+    let v = stateOf (now (at .args .p)) (now (at .args .a)) (now (at .args .f)) in
     let n : call .n ≡ 1 = at .pre .0 .single (λ z. omega arith) in
-    call-law (now (at .args .lut)) (at .args .g) call (at .args .v) (at .args .n) (start .result) (now (at .args .block)) (rendered .last .1 .1 .1 .1 .0)
-    (external _) (one (of .result)) (one (rendered .result)) (back .result) (at .pre .0 .output) (at .pre .1 .whole) (start .ensures .0)
-    (source-external (at .args .g) call _ (at .pre .3) (at .pre .4) _ modulation) (of .ensures ∙ ap (chainAt (at .args .g) (at .args .v) (call .first)) (sym n)) (back .ensures) (rendered .kept .1 .1 .1 .1 .0) (rendered .ensures)
+    let g = settingOf (now (at .args .steps)) (now (at .args .targets)) (at .args .ramp) in (
+      λ scale. call-law (now (at .args .lut)) (g scale) call v (at .args .n) (start .result) (now (at .args .block)) (rendered .last .1 .1 .1 .1 .0)
+          (external _) (one (of .result)) (one (rendered .result)) _ (at .pre .0 .output) (at .pre .1 .whole) (start .ensures .0)
+          (source-external (g scale) call _ (at .pre .3) (at .pre .4) _ modulation) (chain-as (g scale) v _ _ _ _ (of .ensures scale) n)
+          (quiet-back (now (at .args .lut)) (external _) _ (g scale) _ _ _ _ _ (rendered .result) _ _ (external-keeps _ _ _ _) (of .ensures scale) (rendered .ensures .1) (back .ensures .0))
+          (rendered .kept .1 .1 .1 .1 .0) (rendered .ensures),
+      still-lent _ _ _ _ _ (back .ensures .1) (back .ensures .2) (at .pre .5),
+    )
 
 pub call-external-spec : {M : Type 1} → statement M
 call-external-spec =
@@ -113,7 +123,8 @@ call-external-spec =
     part-render-external-start-2
     part-render-external-end-2
     render-external-requires
-    single-back-requires
+    cast-i
+    put-back-requires
     same-length
     same-length-2
     returns)

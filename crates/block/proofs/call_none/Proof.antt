@@ -1,13 +1,14 @@
 -- `block::call_none` meets its contract: what is rendered into its part is what `called` says.
 -- Assumes nothing.
-use mathlib.Core.Path.{_≡_, sym, ap, _∙_}
+use mathlib.Core.Path.{_≡_}
 use native.Mathlib.Omega.{arith}
 use denote.Ref.{now}
 use borrow.Author.Needs.{needs}
-use Rattle.operator.specs.Chain.{one}
 use Rattle.operator.specs.Chain.Source.{none}
-use Rattle.block.specs.Calls.{chainAt}
+use Rattle.operator.specs.Chain.{one}
+use Rattle.block.specs.State.{stateOf, settingOf}
 use Rattle.block.proofs.Calls.{source-none, call-law}
+use Rattle.block.proofs.State.{none-keeps, quiet-back, chain-as, still-lent}
 use Rattle.block.proofs.call_none.Statement.{statement}
 use Rattle.block.proofs.call_none.Tie as tie
 
@@ -35,24 +36,33 @@ part-render-none-end c = search needs
 render-none-requires : tie.Need-render-none-requires
 render-none-requires c κs = search needs
 
-single-back-requires : tie.Need-single-back-requires
-single-back-requires c κs = search needs
+cast-i : tie.Need-cast-i
+cast-i c = search needs
+
+put-back-requires : tie.Need-put-back-requires
+put-back-requires c κs = search needs
 
 same-length : tie.Need-same-length
 same-length c = search needs
 
 returns : tie.Need-returns
 returns c =
-    let back = c .single-back in
-    let rendered = c .before .before .before .render-none in
-    let of = c .before .before .before .before .before .single-of in
-    let start = c .before .before .before .before .before .before .start in
-    let at = c .before .before .before .before .before .before .before .before in
+    let back = c .put-back in
+    let rendered = c .before .before .before .before .before .before .before .render-none in
+    let of = c .before .before .before .before .before .before .before .before .before .single-of in
+    let start = c .before .before .before .before .before .before .before .before .before .before .before .before .start in
+    let at = c .before .before .before .before .before .before .before .before .before .before .before .before .before .before in
     let call = at .args .c in
+    let v = stateOf (now (at .args .p)) (now (at .args .a)) (now (at .args .f)) in
     let n : call .n ≡ 1 = at .pre .0 .single (λ z. omega arith) in
-    call-law (now (at .args .lut)) (at .args .g) call (at .args .v) (at .args .n) (start .result) (now (at .args .block)) (rendered .last .1 .1 .1 .0)
-    none (one (of .result)) (one (rendered .result)) (back .result) (at .pre .0 .output) (at .pre .1 .whole) (start .ensures .0)
-    (source-none (at .args .g) call _ (at .pre .2)) (of .ensures ∙ ap (chainAt (at .args .g) (at .args .v) (call .first)) (sym n)) (back .ensures) (rendered .kept .1 .1 .1 .0) (rendered .ensures)
+    let g = settingOf (now (at .args .steps)) (now (at .args .targets)) (at .args .ramp) in (
+      λ scale. call-law (now (at .args .lut)) (g scale) call v (at .args .n) (start .result) (now (at .args .block)) (rendered .last .1 .1 .1 .0)
+          none (one (of .result)) (one (rendered .result)) _ (at .pre .0 .output) (at .pre .1 .whole) (start .ensures .0)
+          (source-none (g scale) call _ (at .pre .2)) (chain-as (g scale) v _ _ _ _ (of .ensures scale) n)
+          (quiet-back (now (at .args .lut)) none _ (g scale) _ _ _ _ _ (rendered .result) _ _ (none-keeps _ _ _) (of .ensures scale) (rendered .ensures .1) (back .ensures .0))
+          (rendered .kept .1 .1 .1 .0) (rendered .ensures),
+      still-lent _ _ _ _ _ (back .ensures .1) (back .ensures .2) (at .pre .3),
+    )
 
 pub call-none-spec : {M : Type 1} → statement M
 call-none-spec =
@@ -66,6 +76,7 @@ call-none-spec =
     part-render-none-start
     part-render-none-end
     render-none-requires
-    single-back-requires
+    cast-i
+    put-back-requires
     same-length
     returns)

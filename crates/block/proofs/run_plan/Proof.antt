@@ -1,41 +1,57 @@
 -- `block::run_plan` meets its contract.
 -- Assumes nothing.
-use native.Mathlib.Omega.{arith}
 use mathlib.Core.Path.{refl}
 use borrow.Author.Needs.{needs}
-use Rattle.block.proofs.Calls.{ran-law}
+use Rattle.block.proofs.State.{plan-law}
 use Rattle.block.proofs.run_plan.Statement.{statement}
 use Rattle.block.proofs.run_plan.Tie as tie
 
-setting-of-requires : tie.Need-setting-of-requires
-setting-of-requires c κs = search needs
+cast-ramp-scale : tie.Need-cast-ramp-scale
+cast-ramp-scale c = search needs
 
-run-short-requires : tie.Need-run-short-requires
-run-short-requires c κs = (c .before .before .before .before .pre .0, record { small = omega arith; whole = omega arith }, omega arith)
+ramp-scale-requires : tie.Need-ramp-scale-requires
+ramp-scale-requires c κs = search needs
+
+feedback-scale-requires : tie.Need-feedback-scale-requires
+feedback-scale-requires c κs = search needs
+
+phases-of-requires : tie.Need-phases-of-requires
+phases-of-requires c κs = search needs
+
+levels-of-requires : tie.Need-levels-of-requires
+levels-of-requires c κs = search needs
+
+run-requires : tie.Need-run-requires
+run-requires c κs = search needs
+
+operators-of-requires : tie.Need-operators-of-requires
+operators-of-requires c κs = search needs
 
 same-length : tie.Need-same-length
 same-length c = search needs
 
 returns : tie.Need-returns
-returns c = ran-law _ _ _ _ _ _ _ _ _ _ _ refl (c .before .before .before .before .before .setting-of .ensures) (c .before .before .before .before .before .before .before .pre .2) (c .before .before .run-short .kept .1 .1 .1 .1 .1 .0) (c .before .before .run-short .ensures)
-
-run-long-requires : tie.Need-run-long-requires
-run-long-requires c κs = (c .before .before .before .before .pre .0, record { small = omega arith; whole = omega arith })
-
-same-length-2 : tie.Need-same-length-2
-same-length-2 c = search needs
-
-returns-2 : tie.Need-returns-2
-returns-2 c = ran-law _ _ _ _ _ _ _ _ _ _ _ refl (c .before .before .before .before .before .setting-of .ensures) (c .before .before .before .before .before .before .before .pre .2) (c .before .before .run-long .kept .1 .1 .1 .1 .1 .0) (c .before .before .run-long .ensures)
+returns c =
+    let made = c .operators-of in
+    let run = c .before .before .before .run in
+    let levels = c .before .before .before .before .before .before .before .before .before .before .before .levels-of in
+    let phases = c .before .before .before .before .before .before .before .before .before .before .before .before .phases-of in
+    let scale = c .before .before .before .before .before .before .before .before .before .before .before .before .before .feedback-scale in
+    let ramp = c .before .before .before .before .before .before .before .before .before .before .before .before .before .before .ramp-scale in
+    let at = c .before .before .before .before .before .before .before .before .before .before .before .before .before .before .before .before in
+    plan-law _ _ _ _ _ (at .args .v) _ _ _ _ _ _ _ _ _ _ _ refl (ramp .ensures) (scale .ensures) (at .pre .2) (run .kept .1 .1 .1 .1 .1 .1 .1 .1 .1 .1 .0)
+    (phases .ensures) (levels .ensures) (made .ensures) (run .ensures .0)
 
 pub run-plan-spec : {M : Type 1} → statement M
 run-plan-spec =
     tie.close
     (tie.spec
-    setting-of-requires
-    run-short-requires
+    cast-ramp-scale
+    ramp-scale-requires
+    feedback-scale-requires
+    phases-of-requires
+    levels-of-requires
+    run-requires
+    operators-of-requires
     same-length
-    returns
-    run-long-requires
-    same-length-2
-    returns-2)
+    returns)

@@ -1,21 +1,32 @@
 -- `block::take_out` meets its contract.
 -- Assumes nothing.
+use mathlib.Core.Path.{_∙_}
+use Prim.Native.Nat.{_<_}
+use native.Mathlib.Omega.{arith}
+use denote.Ref.{now}
+use lib.ListN.{length}
 use borrow.Author.Needs.{needs}
-use Rattle.block.specs.Calls.{laneAt}
+use Rattle.block.proofs.State.{lane-law}
 use Rattle.block.proofs.take_out.Statement.{statement}
 use Rattle.block.proofs.take_out.Tie as tie
-
-mul-o : tie.Need-mul-o
-mul-o c = search needs
-
-element-copy-out-o : tie.Need-element-copy-out-o
-element-copy-out-o c = search needs
 
 mul-step : tie.Need-mul-step
 mul-step c = search needs
 
 element-copy-out-step : tie.Need-element-copy-out-step
 element-copy-out-step c = search needs
+
+mul-target : tie.Need-mul-target
+mul-target c = search needs
+
+element-copy-out-target : tie.Need-element-copy-out-target
+element-copy-out-target c = search needs
+
+mul-phase : tie.Need-mul-phase
+mul-phase c = search needs
+
+element-copy-out-phase : tie.Need-element-copy-out-phase
+element-copy-out-phase c = search needs
 
 mul-amplitude : tie.Need-mul-amplitude
 mul-amplitude c = search needs
@@ -27,17 +38,22 @@ enter-requires : tie.Need-enter-requires
 enter-requires c κs = search needs
 
 returns : tie.Need-returns
-unfolding laneAt
-returns c = c .enter .ensures
+returns c =
+    let at = c .before .before .before .before .before in
+    let p : at .args .i < length (now (at .args .phases)) = omega arith in
+    let a : at .args .i < length (now (at .args .levels)) = omega arith in
+    λ scale. c .enter .ensures ∙ lane-law (now (at .args .steps)) (now (at .args .targets)) (at .args .ramp) scale (now (at .args .phases)) (now (at .args .levels)) (at .args .i) p a
 
 pub take-out-spec : {M : Type 1} → statement M
 take-out-spec =
     tie.close
     (tie.spec
-    mul-o
-    element-copy-out-o
     mul-step
     element-copy-out-step
+    mul-target
+    element-copy-out-target
+    mul-phase
+    element-copy-out-phase
     mul-amplitude
     element-copy-out-amplitude
     enter-requires

@@ -1,7 +1,7 @@
 -- `block::triple_of` meets its contract.
 -- Assumes nothing.
 use borrow.Author.Needs.{needs}
-use Rattle.block.specs.Calls.{chainAt, lanesAt}
+use Rattle.block.proofs.State.{triple-law}
 use Rattle.block.proofs.triple_of.Statement.{statement}
 use Rattle.block.proofs.triple_of.Tie as tie
 
@@ -20,11 +20,20 @@ take-out-requires-2 c κs = search needs
 take-out-requires-3 : tie.Need-take-out-requires-3
 take-out-requires-3 c κs = search needs
 
+feedback-of-requires : tie.Need-feedback-of-requires
+feedback-of-requires c κs = search needs
+
 returns : tie.Need-returns
-unfolding chainAt lanesAt
-returns c = simp (c .before .before .before .take-out .ensures, c .before .before .take-out2 .ensures, c .before .take-out3 .ensures)
+returns c = λ scale. triple-law _ _ _ _ _ _ (c .feedback-of .ensures) _ (c .before .before .before .take-out .ensures scale) _ (c .before .before .take-out2 .ensures scale) _ (c .before .take-out3 .ensures scale)
 
 pub triple-of-spec : {M : Type 1} → statement M
 triple-of-spec =
     tie.close
-    (tie.spec add-j add-k take-out-requires take-out-requires-2 take-out-requires-3 returns)
+    (tie.spec
+    add-j
+    add-k
+    take-out-requires
+    take-out-requires-2
+    take-out-requires-3
+    feedback-of-requires
+    returns)

@@ -1,4 +1,4 @@
--- `voice_levels::sound_levels` meets its contract. The loop's invariant: the levels are what the first i amplitudes make of them. Assumes nothing.
+-- `voice_levels::sound_levels` meets its contract. The loop's invariant: the numbers are what the first i amplitudes make of the levels. Assumes nothing.
 use mathlib.Core.Path.{_≡_, refl}
 use Prim.Native.Nat.{_-_, _≤_}
 use native.Mathlib.Omega.{arith}
@@ -28,21 +28,21 @@ array-copy-out-o c = omega arith
 mul-amplitude : tie.Need-mul-amplitude Inv-loop μ-loop
 mul-amplitude c = omega arith
 
-element-copy-out-amplitude : tie.Need-element-copy-out-amplitude Inv-loop μ-loop
-element-copy-out-amplitude c = omega arith
+array-read-amplitude : tie.Need-array-read-amplitude Inv-loop μ-loop
+array-read-amplitude c = omega arith
 
 amplitude-requires : tie.Need-amplitude-requires Inv-loop μ-loop
 unfolding operatorAt noOperator scalingWith
 amplitude-requires c κs =
-    let at = c .before .before .before in
+    let at = c .before .before in
     let start = at .before in
     limits (operatorAt (start .args .t3) (at .loop .i)) (operator-at-fits (start .args .t3) (at .loop .i) (omega arith) (start .pre .1)) .sensitivity
 
 mul-l : tie.Need-mul-l Inv-loop μ-loop
 mul-l c = omega arith
 
-element-write-l : tie.Need-element-write-l Inv-loop μ-loop
-element-write-l c = omega arith
+array-write-l : tie.Need-array-write-l Inv-loop μ-loop
+array-write-l c = omega arith
 
 add-i : tie.Need-add-i Inv-loop μ-loop
 add-i c = omega arith
@@ -53,7 +53,7 @@ loop-less c = omega arith
 loop-again : tie.Need-loop-again Inv-loop μ-loop
 unfolding operatorAt noOperator scalingWith
 loop-again c =
-    let at = c .before .before .before .before in
+    let at = c .before .before .before in
     let a = at .before .args in
     (omega arith, sounded-next (a .g) (a .t3) (a .levels) (at .loop .i) (at .loop .inv .1) (c .amplitude .ensures))
 
@@ -72,10 +72,10 @@ sound-levels-spec =
     mul-o
     array-copy-out-o
     mul-amplitude
-    element-copy-out-amplitude
+    array-read-amplitude
     amplitude-requires
     mul-l
-    element-write-l
+    array-write-l
     add-i
     loop-less
     loop-again
