@@ -167,14 +167,8 @@ pub fn render_none(lut: &[f32; 1024], s: Single, add: bool, out: &mut [f32]) -> 
     }
 }
 
-// One operator, modulated by the samples of another buffer.
-pub fn render_external(
-    lut: &[f32; 1024],
-    s: Single,
-    add: bool,
-    modulation: &[f32],
-    out: &mut [f32],
-) -> Single
+// One operator, modulated by the samples of another buffer. Setting and adding get a loop each where this is called with one or the other.
+fn external(lut: &[f32; 1024], s: Single, add: bool, modulation: &[f32], out: &mut [f32]) -> Single
     requires { ⌜ length (now out) ≤ length (now modulation) ⌝ }
     ensures { λ r. ⌜ (now (out .exit) ≡ written (now (lut .entry)) (Source.external (now (modulation .entry))) add 0 (one s) (now (out .entry)))
         × (one r ≡ ended (now (lut .entry)) (Source.external (now (modulation .entry))) (length (now (out .entry))) 0 (one s)) ⌝ }
@@ -192,6 +186,24 @@ pub fn render_external(
         first: l,
         feedback: f,
     }
+}
+
+// The same, by one of the two loops.
+pub fn render_external(
+    lut: &[f32; 1024],
+    s: Single,
+    add: bool,
+    modulation: &[f32],
+    out: &mut [f32],
+) -> Single
+    requires { ⌜ length (now out) ≤ length (now modulation) ⌝ }
+    ensures { λ r. ⌜ (now (out .exit) ≡ written (now (lut .entry)) (Source.external (now (modulation .entry))) add 0 (one s) (now (out .entry)))
+        × (one r ≡ ended (now (lut .entry)) (Source.external (now (modulation .entry))) (length (now (out .entry))) 0 (one s)) ⌝ }
+{
+    if add {
+        return external(lut, s, true, modulation, out);
+    }
+    external(lut, s, false, modulation, out)
 }
 
 // One operator, modulated by its own last two samples.
