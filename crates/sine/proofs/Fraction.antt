@@ -3,7 +3,7 @@
 use mathlib.Core.Path.{_≡_, sym, ap, _∙_}
 use mathlib.Core.Bool.{true, false}
 use mathlib.Core.List.{List}
-use Prim.Native.Nat.{ℕ, _+_, _*_, _/_, _%_, _^_}
+use Prim.Native.Nat.{ℕ, _+_, _*_, _-_, _/_, _%_, _^_}
 use native.Mathlib.Nat.{one-mul, mul-assoc, mul-comm, mul-pos}
 use native.Mathlib.Omega.{arith}
 use lib.IntN.{pos}
@@ -40,8 +40,10 @@ fraction p =
     ∙ round-same binary32 false q (2 ^ 23) (q * 2 ^ 9) (2 ^ 32) (pow-pos 23) (pow-pos 32) (omega arith)
     ∙ sym (over (asFloat (q * 2 ^ 9)) (q * 2 ^ 9) 32 (whole-exact q 9 (omega arith) (omega arith))))
 
--- the line, with the part of the phase as it stands
+-- the line, with what the highest nine bits leave of the phase
 pub line-is : (pairs : List Float) (p : ℕ) {a way : Float} → a ≡ getD pairs (2 * (p / 2 ^ 23)) nan → way ≡ getD pairs (2 * (p / 2 ^ 23) + 1) nan
-    → a ⊕ way ⊗ (asFloat (p % 8388608) ⊘ decimal 8388608 0) ≡ phaseLine pairs p
+    → a ⊕ way ⊗ (asFloat (p - p / 8388608 * 8388608) ⊘ decimal 8388608 0) ≡ phaseLine pairs p
 unfolding phaseLine
-line-is pairs p ea ew = simp (ea, ew, fraction p)
+line-is pairs p ea ew =
+    let e : p - p / 8388608 * 8388608 ≡ p % 8388608 = omega arith in
+    simp (ea, ew, e, fraction p)

@@ -68,12 +68,14 @@ fn steps(pm: f32) -> u32
 }
 
 // The straight line from the entry at a phase towards the next. The phase's lowest 23 bits over 2^23 are an
-// f32, with no rounding: the same as Rust's quotient by 2^32.
+// f32, with no rounding: the same as Rust's quotient by 2^32. They are what the highest nine leave of the phase;
+// taken by their own mask, those nine would be masked too, and the load would wait for it.
 fn line(pairs: &[f32; 1024], phase: u32) -> f32
     ensures { λ r. ⌜ r ≡ phaseLine (now (pairs .entry)) phase ⌝ }
 {
     let integral = (phase >> 23) as usize;
-    let fractional = (phase % 8388608) as f32 / 8388608.0;
+    let rest = phase as usize - integral * 8388608;
+    let fractional = rest as f32 / 8388608.0;
     let a = entry(pairs, 2 * integral);
     let way = entry(pairs, 2 * integral + 1);
     a + way * fractional

@@ -1,6 +1,6 @@
 -- `sine::line` meets its contract. Assumes nothing.
 use mathlib.Core.Path.{sym, subst}
-use Prim.Native.Nat.{_%_}
+use Prim.Native.Nat.{_*_, _-_, _/_}
 use native.Mathlib.Omega.{arith}
 use borrow.Author.Tests.{le-leb}
 use denote.Ref.{now}
@@ -15,9 +15,17 @@ use Rattle.sine.proofs.line.Tie as tie
 cast-integral : tie.Need-cast-integral
 cast-integral c = search needs
 
+mul-rest : tie.Need-mul-rest
+mul-rest c = search needs
+
+sub-rest : tie.Need-sub-rest
+sub-rest c = search needs
+
 int-to-float-fractional : tie.Need-int-to-float-fractional
 unfolding inFloat
-int-to-float-fractional c = subst T (sym (le-leb (c .before .args .phase % 8388608) 16777216 (omega arith))) tt
+int-to-float-fractional c =
+    let p = c .before .args .phase in
+    subst T (sym (le-leb (p - p / 8388608 * 8388608) 16777216 (omega arith))) tt
 
 mul-entry : tie.Need-mul-entry
 mul-entry c = search needs
@@ -45,6 +53,8 @@ line-spec =
     tie.close
     (tie.spec
     cast-integral
+    mul-rest
+    sub-rest
     int-to-float-fractional
     mul-entry
     entry-requires
