@@ -4,8 +4,7 @@ use lib.Ieee.{ofInt, div, mul, lt, isNan, toUnsigned}
 use Rattle.numbers.specs.F32.{decimal, minusDecimal}
 use Rattle.numbers.specs.Extremes.{minimum}
 use Rattle.dx_units.specs.Answers.{operatorLevelAnswer, operatorEnvelopeIncrementAnswer}
-use Rattle.conversions.specs.Units.{operatorLevel, operatorEnvelopeIncrement}
-use Rattle.conversions.specs.Pow.{stepFor}
+use Rattle.conversions.specs.Units.{operatorLevel, operatorEnvelopeIncrement, stepFor}
 use Rattle.algorithms.specs.Opcode.{destination, adding, source, flagged}
 use Rattle.algorithms.specs.Chain.{lastOperator, unmet, ends, grown, reused, chained, originFrom, modulation, known, renders, callLength, rendered}
 use Rattle.algorithms.specs.Plan.{callOf, reading, ready, unready, extended, planFrom, counted, planned}

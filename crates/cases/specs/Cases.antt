@@ -13,7 +13,7 @@ use Rattle.dx_units.specs.declared.Level.the-variants as level
 use Rattle.dx_units.specs.declared.Converted.{Converted}
 use Rattle.dx_units.specs.declared.Converted.the-variants as converted
 use Rattle.dx_units.specs.Answers.{operatorLevelAnswer, operatorEnvelopeIncrementAnswer}
-use Rattle.conversions.specs.Pow.{stepFor}
+use Rattle.conversions.specs.Units.{stepFor}
 use Rattle.algorithms.specs.Plan.{refusal, planned}
 use Rattle.algorithms.specs.Table.{six}
 use Rattle.algorithms.specs.declared.Call.{Call}

@@ -1,3 +1,1 @@
-pub mod Orders
-pub mod Reach
 pub mod Conversions

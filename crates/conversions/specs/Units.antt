@@ -1,11 +1,11 @@
--- The conversions of dx_units.rs, in its order: one rounding per written operation, in the Rust's order. Definitions only.
+-- The conversions of dx_units.rs, in its order, and the step for a frequency: one rounding per written operation, in the Rust's order. Definitions only.
 use mathlib.Core.Bool.{not, _&&_, _||_, cond}
 use mathlib.Core.List.{List}
 use Prim.Native.Nat.{ℕ, _+_, _-_, _*_, _/_, _%_, _^_, max}
 use lib.Dec.{eqb, ltb}
 use lib.IntN.{pos}
 use lib.ListN.{getD}
-use lib.Ieee.{Float, nan, binary32, neg, lt, ofInt}
+use lib.Ieee.{Float, nan, binary32, neg, lt, ofInt, toUnsigned}
 use mir.Syntax.{w32}
 use mir.Val.{toZ}
 use Rattle.numbers.specs.F32.{_⊕_, _⊖_, _⊗_, _⊘_, decimal, asFloat}
@@ -13,11 +13,11 @@ use Rattle.numbers.specs.Extremes.{minimum, maximum, magnitude}
 use Rattle.numbers.specs.Words.{shifted32}
 use Rattle.utils.specs.Interpolate.{interpolated}
 use Rattle.units.specs.Ratio.{ratioOf}
+use Rattle.powers.specs.Pow.{pow2Fast}
 use Rattle.conversions.specs.declared.Increments.{Increments}
 use Rattle.conversions.specs.declared.Ratio.{Ratio}
 use Rattle.conversions.specs.declared.Ratio.the-variants.{Note, Hertz}
 use Rattle.conversions.specs.Tables.{lutCoarse, lutAmpModSensitivity, lutPitchModSensitivity, lutCubeRoot}
-use Rattle.conversions.specs.Pow.{pow2Fast}
 
 -- an operator level as the complement of the total level, as u8
 unfoldable pub operatorLevel : ℕ → ℕ
@@ -121,3 +121,7 @@ frequencyRatio high low mode coarse fine detune =
     let base = baseSemitones mode coarse fine ⊕ (asFloat detune ⊖ decimal 7 0) ⊗ decimal 15 3 in
     let ratio = ratioOf high low base ⊗ fineFactor mode fine in
     cond (eqb mode 0) (Note ratio) (Hertz ratio)
+
+-- the step of a phase of 32 bits for a frequency: at most a half, which a NaN counts as, times 2 ^ 32, as u32
+unfoldable pub stepFor : Float → ℕ
+stepFor frequency = toUnsigned 32 (minimum frequency (decimal 5 1) ⊗ decimal 4294967296 0)

@@ -1,20 +1,14 @@
 // The conversions of dx_units.rs themselves, in its order, for callers that have checked their fields, and the step for a
 // frequency, after operator.rs. Each promises its definition; where a table is looked up, the field is asked to be in
-// bounds. The entries, which refuse what is out of range, are in `dx_units`.
+// bounds. `pow_2_fast` is in `powers`; the entries, which refuse what is out of range, are in `dx_units`.
 ghost use mathlib.Core.Path.{_≡_};
-ghost use mathlib.Core.Bool.{true, false};
 ghost use Prim.Native.Nat.{_≤_, max};
-ghost use lib.IntN.{pos};
-ghost use lib.Ieee.{lt, le};
-ghost use Rattle.numbers.specs.F32.{decimal, minusDecimal};
-ghost use Rattle.conversions.specs.Pow.{pow2Fast, isOrder, stepFor};
 ghost use Rattle.conversions.specs.Tables.{lutCoarse, lutCubeRoot};
-ghost use Rattle.conversions.specs.Pow.{wholeBelow, mantissaBits};
 ghost use Rattle.conversions.specs.Units.{operatorLevel, pitchEnvelopeLevel, operatorEnvelopeIncrement};
 ghost use Rattle.conversions.specs.Units.{pitchEnvelopeIncrement, lfoSteps, lfoFrequency, delaySteps, lfoDelay};
 ghost use Rattle.conversions.specs.Units.{normalizedVelocity, rateScaling, ampModSensitivity};
 ghost use Rattle.conversions.specs.Units.{pitchModSensitivity, bent, sideScaling, keyboardScaling};
-ghost use Rattle.conversions.specs.Units.{coarseSemitones, baseSemitones, fineFactor, frequencyRatio};
+ghost use Rattle.conversions.specs.Units.{coarseSemitones, baseSemitones, fineFactor, frequencyRatio, stepFor};
 
 mod tables;
 
@@ -28,102 +22,6 @@ pub struct Increments {
 pub enum Ratio {
     Note(f32),
     Hertz(f32),
-}
-
-// 2^x, by moving the exponent of a polynomial's value at the part of x past a whole number. The order is
-// the polynomial's.
-pub fn pow_2_fast(x: f32, order: i32) -> f32
-    ensures { λ r. ⌜ r ≡ pow2Fast x order ⌝ }
-{
-    if order == 1 {
-        return pow_2_fast_1(x);
-    }
-    if order == 2 {
-        return pow_2_fast_2(x);
-    }
-    pow_2_any(x, order)
-}
-
-// Order 1, the polynomial's exponent and value in one cast: between these ends the product is whole, and
-// is no NaN's pattern.
-pub fn pow_2_fast_1(x: f32) -> f32
-    ensures { λ r. ⌜ r ≡ pow2Fast x (pos 1) ⌝ }
-{
-    let y = 8388608.0 * (127.0 + x);
-    if (y >= 8388608.0) & (y <= 2139095040.0) {
-        return f32::from_bits((y as f64) as u32);
-    }
-    let bits = numbers::f32_as_i32(y);
-    numbers::f32_from_bits(numbers::i32_as_u32(bits))
-}
-
-// Order 2. Exponents in reach go without the casts' tests.
-pub fn pow_2_fast_2(x: f32) -> f32
-    ensures { λ r. ⌜ r ≡ pow2Fast x (pos 2) ⌝ }
-{
-    if x >= 0.0 {
-        if x < 127.0 {
-            return rising(x);
-        }
-    } else if x > -126.0 {
-        return falling(x);
-    }
-    pow_2_any(x, 2)
-}
-
-// Order 2 from 0 up to 127: the whole number is added to the exponent.
-fn rising(x: f32) -> f32
-    requires { ⌜ (le (decimal 0 0) x ≡ true) × (lt x (decimal 127 0) ≡ true) ⌝ }
-    ensures { λ r. ⌜ r ≡ pow2Fast x (pos 2) ⌝ }
-{
-    let n = std::num::truncating_f32_to_u64(x) as u32;
-    let m = mantissa(x - (n as f32), 2);
-    numbers::f32_from_bits(numbers::wrapping_add_u32(m, n << 23))
-}
-
-// Order 2 between -126 and 0: how far the whole number is below 0 is taken from the exponent.
-fn falling(x: f32) -> f32
-    requires { ⌜ (le (decimal 0 0) x ≡ false) × (lt (minusDecimal 126 0) x ≡ true) ⌝ }
-    ensures { λ r. ⌜ r ≡ pow2Fast x (pos 2) ⌝ }
-{
-    let n = std::num::truncating_f32_to_u64(-x) as u32 + 1;
-    let m = mantissa(x + (n as f32), 2);
-    numbers::f32_from_bits(numbers::wrapping_sub_u32(m, n << 23))
-}
-
-// Any order but 1, and any x.
-fn pow_2_any(x: f32, order: i32) -> f32
-    requires { ⌜ isOrder 1 order ≡ false ⌝ }
-    ensures { λ r. ⌜ r ≡ pow2Fast x order ⌝ }
-{
-    let integral = whole_below(x);
-    let mantissa = mantissa(x - numbers::i32_as_f32(integral), order);
-    let exponent = numbers::wrapping_shl_u32(numbers::i32_as_u32(integral), 23);
-    numbers::f32_from_bits(numbers::wrapping_add_u32(mantissa, exponent))
-}
-
-// The whole number at or below x; one too low at a negative whole number, as in the Rust.
-pub fn whole_below(x: f32) -> i32
-    ensures { λ r. ⌜ r ≡ wholeBelow x ⌝ }
-{
-    let integral = numbers::f32_as_i32(x);
-    if x < 0.0 {
-        return numbers::wrapping_sub_i32(integral, 1);
-    }
-    integral
-}
-
-// The bits of the polynomial of an order; none for an order that has no polynomial.
-pub fn mantissa(x: f32, order: i32) -> u32
-    ensures { λ r. ⌜ r ≡ mantissaBits x order ⌝ }
-{
-    if order == 2 {
-        return numbers::f32_to_bits(1.0 + x * (0.6565 + x * 0.3435));
-    }
-    if order == 3 {
-        return numbers::f32_to_bits(1.0 + x * (0.6958 + x * (0.2251 + x * 0.0791)));
-    }
-    0
 }
 
 pub fn operator_level(level: u8) -> u8
@@ -226,7 +124,7 @@ pub fn normalize_velocity(velocity: f32) -> f32
 pub fn rate_scaling(note: f32, scaling: u8) -> f32
     ensures { λ r. ⌜ r ≡ rateScaling note scaling ⌝ }
 {
-    pow_2_fast_1(scaling as f32 * (note * 0.33333 - 7.0) * 0.03125)
+    powers::pow_2_fast_1(scaling as f32 * (note * 0.33333 - 7.0) * 0.03125)
 }
 
 pub fn amp_mod_sensitivity(sensitivity: u8) -> f32

@@ -14,7 +14,7 @@ pub use conversions::Ratio;
 pub use conversions::frequency_step;
 pub use conversions::lut_coarse;
 pub use conversions::lut_cube_root;
-pub use conversions::pow_2_fast;
+pub use powers::pow_2_fast;
 
 // A level, or the number of a refusal.
 pub enum Level {

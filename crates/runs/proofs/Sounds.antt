@@ -16,9 +16,9 @@ use Rattle.sine.specs.Pairs.{pairsOf, sinePairs}
 use Rattle.units.specs.Ratio.{ratioIn, lowered, raised, ratioOf}
 use Rattle.units.specs.Ratio as ratio
 use Rattle.units.specs.Tables.{lutPitchRatioHigh, lutPitchRatioLow}
-use Rattle.conversions.specs.Pow.{wholeBelow, mantissaBits, pow2Fast, stepFor}
+use Rattle.powers.specs.Pow.{wholeBelow, mantissaBits, pow2Fast}
 use Rattle.conversions.specs.Tables.{lutCoarse, lutAmpModSensitivity, lutCubeRoot}
-use Rattle.conversions.specs.Units.{operatorLevel, pitchEnvelopeLevel, operatorEnvelopeIncrement, pitchEnvelopeIncrement, normalizedVelocity, rateScaling, ampModSensitivity, sideScaling, keyboardScaling, coarseSemitones, baseSemitones, fineFactor, frequencyRatio}
+use Rattle.conversions.specs.Units.{operatorLevel, pitchEnvelopeLevel, operatorEnvelopeIncrement, pitchEnvelopeIncrement, normalizedVelocity, rateScaling, ampModSensitivity, sideScaling, keyboardScaling, coarseSemitones, baseSemitones, fineFactor, frequencyRatio, stepFor}
 use Rattle.conversions.specs.Units as conversions
 use Rattle.patch.specs.Form.{scalingWith, modulationsWith, envelopeNumber, scalingNumber, operatorNumber, lfoNumber, operatorAt, numberOf}
 use Rattle.patch.specs.Layout.{later, envelopeField, scalingField, operatorField, lfoField, fieldOf, stages, envelopeNames, scalingNames, operatorNames, lfoNames, letters, sharedNames, layout}
@@ -68,9 +68,9 @@ unfolding neg add sub mul div lt eq le ne isNan ofInt toUnsigned toSigned ofBits
     lutSine pairsOf sinePairs
     ratioIn lowered raised ratioOf ratio.within
     lutPitchRatioHigh lutPitchRatioLow
-    wholeBelow mantissaBits pow2Fast stepFor
+    wholeBelow mantissaBits pow2Fast
     lutCoarse lutAmpModSensitivity lutCubeRoot
-    operatorLevel pitchEnvelopeLevel operatorEnvelopeIncrement pitchEnvelopeIncrement normalizedVelocity rateScaling ampModSensitivity sideScaling keyboardScaling coarseSemitones baseSemitones fineFactor frequencyRatio conversions.bent
+    operatorLevel pitchEnvelopeLevel operatorEnvelopeIncrement pitchEnvelopeIncrement normalizedVelocity rateScaling ampModSensitivity sideScaling keyboardScaling coarseSemitones baseSemitones fineFactor frequencyRatio conversions.bent stepFor
     scalingWith modulationsWith envelopeNumber scalingNumber operatorNumber lfoNumber operatorAt numberOf
     later envelopeField scalingField operatorField lfoField fieldOf stages envelopeNames scalingNames operatorNames lfoNames letters sharedNames layout
     patchFits packed.within

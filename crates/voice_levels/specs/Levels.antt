@@ -8,8 +8,8 @@ use lib.Ieee.{Float, nan, neg}
 use Rattle.numbers.specs.F32.{_⊕_, _⊖_, _⊗_, decimal, minusDecimal, asFloat}
 use Rattle.numbers.specs.Extremes.{minimum, magnitude}
 use Rattle.units.specs.Ratio.{ratioOf}
-use Rattle.conversions.specs.Pow.{pow2Fast, stepFor}
-use Rattle.conversions.specs.Units.{rateScaling, keyboardScaling, ampModSensitivity}
+use Rattle.powers.specs.Pow.{pow2Fast}
+use Rattle.conversions.specs.Units.{rateScaling, keyboardScaling, ampModSensitivity, stepFor}
 use Rattle.conversions.specs.declared.Ratio.{Ratio}
 use Rattle.conversions.specs.declared.Ratio.the-variants.{Note, Hertz}
 use Rattle.envelope.specs.declared.Envelope.{Envelope}

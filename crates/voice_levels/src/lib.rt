@@ -75,9 +75,9 @@ pub fn timing_for(
     ensures { λ r. ⌜ r ≡ timingFor sustain gate «sample_rate» «envelope_control» samples ⌝ }
 {
     let envelope_rate = numbers::u32_as_f32(samples);
-    let ad_scale = conversions::pow_2_fast((0.5 - envelope_control) * 8.0, 1);
+    let ad_scale = powers::pow_2_fast((0.5 - envelope_control) * 8.0, 1);
     let release = -numbers::f32_abs(envelope_control - 0.3) * 8.0;
-    let release_scale = conversions::pow_2_fast(release, 1);
+    let release_scale = powers::pow_2_fast(release, 1);
     let gate_duration = 1.5 * sample_rate;
     let envelope_sample = gate_duration * envelope_control;
     Timing {
@@ -194,7 +194,7 @@ fn level_mod(log_level_mod: f32) -> f32
     if log_level_mod == -1.0 {
         return LEVEL_MOD_AT_REST;
     }
-    1.0 - conversions::pow_2_fast(6.4 * log_level_mod, 2)
+    1.0 - powers::pow_2_fast(6.4 * log_level_mod, 2)
 }
 
 // The amplitude of a level, with the amplitude modulation.
@@ -203,7 +203,7 @@ fn amplitude(amp_mod: f32, sensitivity: u8, level: f32) -> f32
     ensures { λ r. ⌜ r ≡ amplitudeOf «amp_mod» sensitivity level ⌝ }
 {
     let log_level_mod = conversions::amp_mod_sensitivity(sensitivity) * amp_mod - 1.0;
-    conversions::pow_2_fast(-14.0 + level * level_mod(log_level_mod), 2)
+    powers::pow_2_fast(-14.0 + level * level_mod(log_level_mod), 2)
 }
 
 // An operator's envelope, step and level.

@@ -1,7 +1,7 @@
 -- `conversions::frequency_step` meets its contract. Assumes nothing.
 use lib.Ieee.{ofBits}
 use Rattle.numbers.specs.F32.{decimal}
-use Rattle.conversions.specs.Pow.{stepFor}
+use Rattle.conversions.specs.Units.{stepFor}
 use borrow.Author.Needs.{needs}
 use Rattle.conversions.proofs.frequency_step.Statement.{statement}
 use Rattle.conversions.proofs.frequency_step.Tie as tie

@@ -1,12 +1,12 @@
--- `conversions::pow_2_fast` meets its contract. Assumes nothing.
+-- `powers::pow_2_fast` meets its contract. Assumes nothing.
 use mathlib.Core.Path.{_∙_, sym, ap}
 use native.Mathlib.Omega.{arith}
 use Rattle.numbers.proofs.Signed.{back}
-use Rattle.conversions.specs.Pow.{isOrder, pow2Fast}
-use Rattle.conversions.proofs.Orders.{not-order, the-order}
+use Rattle.powers.specs.Pow.{isOrder, pow2Fast}
+use Rattle.powers.proofs.Orders.{not-order, the-order}
 use borrow.Author.Needs.{needs}
-use Rattle.conversions.proofs.pow_2_fast.Statement.{statement}
-use Rattle.conversions.proofs.pow_2_fast.Tie as tie
+use Rattle.powers.proofs.pow_2_fast.Statement.{statement}
+use Rattle.powers.proofs.pow_2_fast.Tie as tie
 
 pow-2-fast-1-requires : tie.Need-pow-2-fast-1-requires
 pow-2-fast-1-requires c κs = search needs

@@ -1,11 +1,11 @@
--- `conversions::pow_2_any` meets its contract. Assumes nothing.
+-- `powers::pow_2_any` meets its contract. Assumes nothing.
 use lib.Ieee.{ofBits}
 use Rattle.numbers.specs.F32.{decimal}
 use Rattle.numbers.proofs.Signed.{back}
-use Rattle.conversions.proofs.Orders.{other-order}
+use Rattle.powers.proofs.Orders.{other-order}
 use borrow.Author.Needs.{needs}
-use Rattle.conversions.proofs.pow_2_any.Statement.{statement}
-use Rattle.conversions.proofs.pow_2_any.Tie as tie
+use Rattle.powers.proofs.pow_2_any.Statement.{statement}
+use Rattle.powers.proofs.pow_2_any.Tie as tie
 
 whole-below-requires : tie.Need-whole-below-requires
 whole-below-requires c κs = search needs

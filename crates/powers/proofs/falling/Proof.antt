@@ -1,12 +1,12 @@
--- `conversions::falling` meets its contract. Assumes nothing.
+-- `powers::falling` meets its contract. Assumes nothing.
 use native.Mathlib.Omega.{arith}
 use Prim.Native.Nat.{_+_}
 use lib.Ieee.{ofBits}
 use Rattle.numbers.specs.F32.{decimal, minusDecimal}
-use Rattle.conversions.proofs.Reach.{Falling, is-falling, falling-count, falling-above, falling-under, exact, fallen}
+use Rattle.powers.proofs.Reach.{Falling, is-falling, falling-count, falling-above, falling-under, exact, fallen}
 use borrow.Author.Needs.{needs}
-use Rattle.conversions.proofs.falling.Statement.{statement}
-use Rattle.conversions.proofs.falling.Tie as tie
+use Rattle.powers.proofs.falling.Statement.{statement}
+use Rattle.powers.proofs.falling.Tie as tie
 
 there : (c : tie.Start) → Falling (c .args .x)
 unfolding decimal minusDecimal

@@ -1,12 +1,12 @@
--- `conversions::mantissa` meets its contract. Assumes nothing.
+-- `powers::mantissa` meets its contract. Assumes nothing.
 use native.Mathlib.Omega.{arith}
 use lib.Ieee.{ofBits}
 use Rattle.numbers.specs.F32.{decimal}
-use Rattle.conversions.specs.Pow.{mantissaBits}
-use Rattle.conversions.proofs.Orders.{is-order, not-order}
+use Rattle.powers.specs.Pow.{mantissaBits}
+use Rattle.powers.proofs.Orders.{is-order, not-order}
 use borrow.Author.Needs.{needs}
-use Rattle.conversions.proofs.mantissa.Statement.{statement}
-use Rattle.conversions.proofs.mantissa.Tie as tie
+use Rattle.powers.proofs.mantissa.Statement.{statement}
+use Rattle.powers.proofs.mantissa.Tie as tie
 
 f32-to-bits-requires : tie.Need-f32-to-bits-requires
 f32-to-bits-requires c κs = search needs

@@ -1,13 +1,12 @@
--- `pow_2_fast`, and the step for a frequency: one rounding per written operation, in the Rust's order. Definitions only.
+-- `pow_2_fast`: one rounding per written operation, in the Rust's order. Definitions only.
 use mathlib.Core.Bool.{Bool, false, cond}
 use Prim.Native.Nat.{ℕ}
 use lib.Dec.{eqb}
 use lib.IntN.{ℤ, pos, negsuc}
-use lib.Ieee.{Float, binary32, lt, ofBits, toBits, ofInt, toSigned, toUnsigned}
+use lib.Ieee.{Float, binary32, lt, ofBits, toBits, ofInt, toSigned}
 use mir.Syntax.{w32}
 use mir.Val.{ofZ}
 use Rattle.numbers.specs.F32.{_⊕_, _⊖_, _⊗_, decimal}
-use Rattle.numbers.specs.Extremes.{minimum}
 use Rattle.numbers.specs.Words.{sum32, shifted32, differenceSigned}
 
 abbrev pub isOrder : ℕ → ℤ → Bool
@@ -31,7 +30,3 @@ pow2Fast x order =
     let whole = wholeBelow x in
     cond (isOrder 1 order) (ofBits binary32 (ofZ w32 (toSigned 31 (decimal 8388608 0 ⊗ (decimal 127 0 ⊕ x)))))
     (ofBits binary32 (sum32 (mantissaBits (x ⊖ ofInt binary32 whole) order) (shifted32 (ofZ w32 whole) 23)))
-
--- the step of a phase of 32 bits for a frequency: at most a half, which a NaN counts as, times 2 ^ 32, as u32
-unfoldable pub stepFor : Float → ℕ
-stepFor frequency = toUnsigned 32 (minimum frequency (decimal 5 1) ⊗ decimal 4294967296 0)

@@ -11,7 +11,7 @@ use mir.Syntax.{w32}
 use mir.Val.{ofZ}
 use Rattle.numbers.specs.F32.{_⊕_, _⊖_, _⊗_, decimal}
 use Rattle.numbers.specs.Words.{sum32, shifted32, differenceSigned}
-use Rattle.conversions.specs.Pow.{isOrder, wholeBelow, mantissaBits, pow2Fast}
+use Rattle.powers.specs.Pow.{isOrder, wholeBelow, mantissaBits, pow2Fast}
 
 -- the code compares an order's bits
 pub the-order : (k : ℕ) (z : ℤ) → k < 2 ^ 31 → mag z < 2 ^ 31 → ofZ w32 z ≡ k → z ≡ pos k

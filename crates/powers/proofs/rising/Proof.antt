@@ -1,11 +1,11 @@
--- `conversions::rising` meets its contract. Assumes nothing.
+-- `powers::rising` meets its contract. Assumes nothing.
 use native.Mathlib.Omega.{arith}
 use lib.Ieee.{ofBits}
 use Rattle.numbers.specs.F32.{decimal}
-use Rattle.conversions.proofs.Reach.{Rising, is-rising, rising-count, rising-above, rising-under, exact, risen}
+use Rattle.powers.proofs.Reach.{Rising, is-rising, rising-count, rising-above, rising-under, exact, risen}
 use borrow.Author.Needs.{needs}
-use Rattle.conversions.proofs.rising.Statement.{statement}
-use Rattle.conversions.proofs.rising.Tie as tie
+use Rattle.powers.proofs.rising.Statement.{statement}
+use Rattle.powers.proofs.rising.Tie as tie
 
 there : (c : tie.Start) → Rising (c .args .x)
 unfolding decimal

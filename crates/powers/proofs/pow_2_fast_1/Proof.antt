@@ -1,15 +1,15 @@
--- `conversions::pow_2_fast_1` meets its contract. Assumes nothing.
+-- `powers::pow_2_fast_1` meets its contract. Assumes nothing.
 use mathlib.Core.Path.{refl}
 use lib.IntN.{pos}
 use lib.Ieee.{Float, ofBits}
 use Rattle.numbers.specs.F32.{_⊕_, _⊗_, decimal}
 use Rattle.numbers.proofs.Signed.{back}
 use Rattle.numbers.proofs.Casts.{fast-in, at-least-number, widens}
-use Rattle.conversions.proofs.Orders.{first-order}
-use Rattle.conversions.proofs.Reach.{a-pattern, pattern-whole, pattern-below, no-nan, in-one-cast}
+use Rattle.powers.proofs.Orders.{first-order}
+use Rattle.powers.proofs.Reach.{a-pattern, pattern-whole, pattern-below, no-nan, in-one-cast}
 use borrow.Author.Needs.{needs}
-use Rattle.conversions.proofs.pow_2_fast_1.Statement.{statement}
-use Rattle.conversions.proofs.pow_2_fast_1.Tie as tie
+use Rattle.powers.proofs.pow_2_fast_1.Statement.{statement}
+use Rattle.powers.proofs.pow_2_fast_1.Tie as tie
 
 abbrev product : Float → Float
 product x = decimal 8388608 0 ⊗ (decimal 127 0 ⊕ x)

@@ -1,11 +1,11 @@
--- `conversions::whole_below` meets its contract. Assumes nothing.
+-- `powers::whole_below` meets its contract. Assumes nothing.
 use lib.Ieee.{ofBits}
 use Rattle.numbers.specs.F32.{decimal}
 use Rattle.numbers.proofs.Signed.{back}
-use Rattle.conversions.proofs.Orders.{below-zero, at-zero-or-above}
+use Rattle.powers.proofs.Orders.{below-zero, at-zero-or-above}
 use borrow.Author.Needs.{needs}
-use Rattle.conversions.proofs.whole_below.Statement.{statement}
-use Rattle.conversions.proofs.whole_below.Tie as tie
+use Rattle.powers.proofs.whole_below.Statement.{statement}
+use Rattle.powers.proofs.whole_below.Tie as tie
 
 f32-as-i32-requires : tie.Need-f32-as-i32-requires
 f32-as-i32-requires c κs = search needs

@@ -1,10 +1,10 @@
--- `conversions::pow_2_fast_2` meets its contract. Assumes nothing.
+-- `powers::pow_2_fast_2` meets its contract. Assumes nothing.
 use mathlib.Core.Path.{refl}
 use lib.Ieee.{ofBits, neg}
 use Rattle.numbers.specs.F32.{decimal, minusDecimal}
 use borrow.Author.Needs.{needs}
-use Rattle.conversions.proofs.pow_2_fast_2.Statement.{statement}
-use Rattle.conversions.proofs.pow_2_fast_2.Tie as tie
+use Rattle.powers.proofs.pow_2_fast_2.Statement.{statement}
+use Rattle.powers.proofs.pow_2_fast_2.Tie as tie
 
 rising-requires : tie.Need-rising-requires
 unfolding decimal ofBits
