@@ -4,8 +4,7 @@ use mathlib.Core.Bool.{Bool, true, false, _&&_}
 use Prim.Native.Nat.{ℕ, _≤_}
 use borrow.Author.Tests.{leb-true}
 use lib.Dec.{leb}
-use Rattle.numbers.proofs.Views.{no}
-use Rattle.lfo.proofs.Tests.{and-left}
+use Rattle.numbers.proofs.Views.{no, both}
 use Rattle.patch.specs.declared.ModulationParameters.{ModulationParameters}
 use Rattle.patch.specs.Layout.{lfoNames, lfoField}
 use Rattle.patch.specs.Form.{lfoNumber}
@@ -24,7 +23,7 @@ last-of-seven false b c d e f g h = no h
 module _ (m : ModulationParameters) (limit : ℕ) (h : modulationsFit m limit ≡ true) where
   pub rate-fits : m .rate ≤ 99
   unfolding modulationsFit within lfoNames lfoField lfoNumber
-  rate-fits = leb-true (m .rate) 99 (and-left _ _ h)
+  rate-fits = leb-true (m .rate) 99 (both _ _ h .0)
 
   pub sensitivity-fits : m .«pitch_mod_sensitivity» ≤ limit
   unfolding modulationsFit within lfoNames lfoField lfoNumber

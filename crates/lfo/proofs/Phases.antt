@@ -16,10 +16,9 @@ use lib.Ieee.Exact.{HasValue, round-exact}
 use lib.Ieee.Fits.{up-pos, down-pos, and-i, eq→eqb, round-fits}
 use lib.Ieee.Order.{round-mono}
 use lib.Ieee.Scale.{finite}
-use Rattle.numbers.proofs.Views.{no, on, AtLeast, ge-fin, at-least, NotAtLeast, nge-fin, not-at-least, Under, lt-fin, under}
+use Rattle.numbers.proofs.Views.{no, on, both, AtLeast, ge-fin, at-least, NotAtLeast, nge-fin, not-at-least, Under, lt-fin, under}
 use Rattle.numbers.proofs.Casts.{digits-lt}
 use Rattle.utils.proofs.Whole.{whole-exact}
-use Rattle.lfo.proofs.Tests.{and-left}
 use Rattle.units.proofs.Bounds.{Plus, p-inf, p-fin, round-plus, Upto, upto, upto-part}
 
 -- ---- finite and at least 0
@@ -41,7 +40,7 @@ is-from-zero nan h f = absurd f
 is-from-zero (inf s) h f = absurd f
 is-from-zero (fin false m e) h f = plus m e
 is-from-zero (fin true m e) h f =
-    negative-zero m e (no-digits m e (let z = eqb-true (0 * 1 * down e) (m * up e * 1) (and-left (eqb (0 * 1 * down e) (m * up e * 1)) (eqb (0 * 1 * down e) 0) h) in omega arith))
+    negative-zero m e (no-digits m e (let z = eqb-true (0 * 1 * down e) (m * up e * 1) (both (eqb (0 * 1 * down e) (m * up e * 1)) (eqb (0 * 1 * down e) 0) h .0) in omega arith))
 
 pub under-from-zero : (j : ℕ) (x : Float) → le (fin false 0 (pos 0)) x ≡ true → lt x (fin false 1 (pos j)) ≡ true → FromZero x
 unfolding le lt eq

@@ -11,13 +11,8 @@ use lib.Ieee.{Float, nan, inf, fin, lt, le, eq}
 use lib.Ieee.Scale.{finite}
 use mir.Syntax.{w32}
 use mir.Val.{ofZ}
-use Rattle.numbers.proofs.Views.{no}
 use Rattle.lfo.specs.declared.Waveform.the-variants.{Triangle}
 use Rattle.lfo.specs.Lfo.{waveformOf, wholeChanged}
-
-pub and-left : (a b : Bool) → (a && b) ≡ true → a ≡ true
-and-left true b h = refl
-and-left false b h = no h
 
 -- below infinity and at least 0 is finite and at least 0
 pub under-infinity : (x : Float) → (le (fin false 0 (pos 0)) x && lt x (inf false)) ≡ (le (fin false 0 (pos 0)) x && finite x)

@@ -11,7 +11,7 @@ use lib.Pow.{pow-pos, pow-mono}
 use lib.Ieee.Fits.{up-pos, down-pos, and-l, and-r, and-i, eq→eqb, fits-widens}
 use lib.Ieee.{Float, nan, inf, fin, Format, binary32, binary64, up, down, lt, le, eq, ne, neg, fits, toUnsigned, toSigned, inUnsigned, whole, isNan}
 use Rattle.numbers.specs.Extremes.{magnitude}
-use Rattle.numbers.proofs.Views.{no, on, AtLeast, ge-inf, ge-fin, NotAtLeast, nge-nan, nge-inf, nge-neg, nge-fin, Under, lt-inf, lt-neg, lt-fin, NotUnder, nlt-nan, nlt-inf, nlt-fin, AtLeastNeg, gen-inf, gen-fin, gen-neg, NotAtLeastNeg, ngen-nan, ngen-inf, ngen-neg, NotAboveNeg, ngt-nan, ngt-inf, ngt-neg}
+use Rattle.numbers.proofs.Views.{no, on, both, AtLeast, ge-inf, ge-fin, NotAtLeast, nge-nan, nge-inf, nge-neg, nge-fin, Under, lt-inf, lt-neg, lt-fin, NotUnder, nlt-nan, nlt-inf, nlt-fin, AtLeastNeg, gen-inf, gen-fin, gen-neg, NotAtLeastNeg, ngen-nan, ngen-inf, ngen-neg, NotAboveNeg, ngt-nan, ngt-inf, ngt-neg}
 
 -- an f32 of 2 ^ 23 or more has no fraction
 no-fraction : (m k : ℕ) → m < 2 ^ 24 → 2 ^ 23 * 2 ^ suc k ≤ m * 1 → ⊥
@@ -195,16 +195,12 @@ none : (n : ℕ) (e : ℤ) → eqb (n * up e * 1) (0 * 1 * down e) ≡ true → 
 none zero e h = refl
 none (suc n) e h = let z = eqb-true (suc n * up e * 1) (0 * 1 * down e) h in let o : 1 ≤ suc n = omega arith in let q = mul-le-mul o (up-pos e) in omega arith
 
-and-left : (a b : Bool) → (a && b) ≡ true → a ≡ true
-and-left true b h = refl
-and-left false b h = no h
-
 pub abs-zero : (x : Float) → T (fits binary32 x) → eq x (fin false 0 (pos 0)) ≡ true → fin false 0 (pos 0) ≡ magnitude x
 unfolding eq magnitude
 abs-zero nan f h = no h
 abs-zero (inf s) f h = no h
 abs-zero (fin s m e) f h =
-    let z = none m e (and-left (eqb (m * up e * 1) (0 * 1 * down e)) (Bool·beq s false || eqb (m * up e * 1) 0) h) in
+    let z = none m e (both (eqb (m * up e * 1) (0 * 1 * down e)) (Bool·beq s false || eqb (m * up e * 1) 0) h .0) in
     let g : T (fits binary32 (fin s 0 e)) = subst (λ (n : ℕ). T (fits binary32 (fin s n e))) z f in
     let y = zero-fits s e g in
     rw (z, y)

@@ -15,12 +15,8 @@ use mir.Syntax.{w32}
 use mir.Val.{toZ, ofZ}
 use Rattle.numbers.specs.F32.{_⊕_, _⊖_, _⊗_, decimal, asFloat}
 use Rattle.numbers.specs.Words.{sum32, difference32, shifted32, differenceSigned}
-use Rattle.numbers.proofs.Views.{no, on, or-le, AtLeast, ge-inf, ge-fin, at-least, Under, lt-fin}
+use Rattle.numbers.proofs.Views.{no, on, both, or-le, AtLeast, ge-inf, ge-fin, at-least, Under, lt-fin}
 use Rattle.powers.specs.Pow.{wholeBelow, mantissaBits, pow2Fast}
-
-both : (a b : Bool) → (a && b) ≡ true → (a ≡ true) × (b ≡ true)
-both true b h = (refl, h)
-both false b h = no h
 
 -- ---- order 1: a whole number from 2 ^ 23 to an infinity's pattern
 

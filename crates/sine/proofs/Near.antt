@@ -1,7 +1,7 @@
 -- A modulation lifted by 32 and times 2 ^ 26, by where the modulation lies: from -31 to 30 the product is a whole number below 2 ^ 32,
 -- and where the lifted one is 64 or more it is 2 ^ 32 at least. Sums and products grow with what they are made of, rounded too.
 -- Assumes nothing.
-use mathlib.Core.Path.{_≡_, refl, sym, subst}
+use mathlib.Core.Path.{_≡_, sym, subst}
 use mathlib.Core.Bool.{Bool, true, false, _&&_, cond}
 use Prim.Native.Nat.{ℕ, _+_, _*_, _-_, _^_, _<_, _≤_}
 use native.Mathlib.Omega.{arith}
@@ -14,7 +14,7 @@ use lib.Ieee.Fits.{down-pos}
 use lib.Ieee.Order.{round-mono}
 use lib.Ieee.Positive.{positive, between, first-pos, mul-mono}
 use Rattle.numbers.specs.F32.{_⊕_, _⊗_}
-use Rattle.numbers.proofs.Views.{no, or-le, or-ge, AtLeast, ge-inf, ge-fin, at-least, Under, lt-inf, lt-neg, lt-fin, nlt-inf, nlt-fin}
+use Rattle.numbers.proofs.Views.{no, both, or-le, or-ge, AtLeast, ge-inf, ge-fin, at-least, Under, lt-inf, lt-neg, lt-fin, nlt-inf, nlt-fin}
 use Rattle.numbers.proofs.Casts.{too-large, at-least-not-nan}
 
 -- the lift, the scale, and the ends of the lifted modulation
@@ -98,10 +98,6 @@ far-all l h = go l h (at-least 6 l h)
         all (fin false m e ⊗ scale) (at-least 32 (fin false m e ⊗ scale) (is-true (le (fin false 1 (pos 32)) (fin false m e ⊗ scale)) (mul-mono binary32 (fin false 1 (pos 6)) (fin false m e) scale scale tt p tt tt (subst T (sym k) tt) same-scale)))
 
 -- ---- by the code's test
-
-both : (a b : Bool) → (a && b) ≡ true → (a ≡ true) × (b ≡ true)
-both true b h = (refl, h)
-both false b h = no h
 
 near-within : (pm : Float) → (le (fin true 31 (pos 0)) pm && le pm (fin false 15 (pos 1))) ≡ true → Within (pm ⊕ lift)
 near-within pm h =
