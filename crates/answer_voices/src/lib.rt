@@ -9,9 +9,9 @@ use operator::Operator;
 use patch::Patch;
 use voice::Loaded;
 use voice::Prepared;
-use voice::Rendered;
 use voice::Voice;
-use voice::VoiceParameters;
+use voice_render::Rendered;
+use voice_render::VoiceParameters;
 use voice_setup::Tuned;
 
 // The bytes of a voice, and the numbers of the longest block.
@@ -162,7 +162,7 @@ fn tried_block(v: Voice) -> Prepared {
         pitch_mod: 0.0,
         amp_mod: 0.0,
     };
-    let done = voice::render(v, p, &mut block);
+    let done = voice_render::render(v, p, &mut block);
     let w = done.voice;
     Prepared {
         number: done.number,
@@ -278,12 +278,12 @@ fn parameters(s: &[u8]) -> VoiceParameters {
 // Given blocks are rendered by the entry that makes its tables, seeded ones by that which is lent them.
 fn rendered(entry: u8, v: Voice, p: VoiceParameters, block: &mut [f32]) -> Rendered {
     if entry == 0x87 {
-        return voice::render(v, p, block);
+        return voice_render::render(v, p, block);
     }
     let pairs = sine::sine_pairs();
     let high = units::lut_pitch_ratio_high();
     let low = units::lut_pitch_ratio_low();
-    voice::render_with(&pairs, &high, &low, v, p, block)
+    voice_render::render_with(&pairs, &high, &low, v, p, block)
 }
 
 // Writes a block as a slice of floats and a voice behind it.

@@ -12,7 +12,7 @@ use patch::ModulationParameters;
 use patch::Operator;
 use patch::Patch;
 use voice::Voice;
-use voice::VoiceParameters;
+use voice_render::VoiceParameters;
 
 // Blocks of the sine, one after the other in the same place: each starts one further on than the last, the
 // phase moves by a step and the modulation by another. The table is made once and lent.
@@ -368,7 +368,7 @@ fn sounded(
     let mut v = first;
     let mut k = 0u32;
     while k < blocks {
-        let r = voice::render_with(lut, high, low, v, p, block);
+        let r = voice_render::render_with(lut, high, low, v, p, block);
         let w = r.voice;
         v = w;
         k += 1;
@@ -401,7 +401,7 @@ pub extern "C" fn bench_voice(bytes: &[u8], note: f32, blocks: u32, block: &mut 
         pitch_mod: 0.0,
         amp_mod: 0.0,
     };
-    let blank = voice::render_with(&pairs, &high, &low, dirty, p, block);
+    let blank = voice_render::render_with(&pairs, &high, &low, dirty, p, block);
     let clean = blank.voice;
     sounded(&pairs, &high, &low, clean, p, blocks, block)
 }

@@ -1,7 +1,7 @@
 -- What each entry answers: 9 for a state with a stage above 3, then 6 for a number above its largest, else the work. A refusal hands the state back as it
 -- came, and 0.0 for a value. Definitions only.
-use mathlib.Core.Bool.{Bool, _&&_, cond}
-use mathlib.Core.List.{List}
+use mathlib.Core.Bool.{Bool, true, _&&_, cond}
+use mathlib.Core.List.{List, [], _∷_}
 use Prim.Native.Nat.{ℕ}
 use lib.Dec.{leb}
 use lib.ListN.{getD}
@@ -20,6 +20,11 @@ use Rattle.envelope.specs.Scrub.{scrubbed}
 -- a stage is at most 3; otherwise 9, or 6 for one that is asked for
 abbrev pub isStage : ℕ → Bool
 isStage stage = leb stage 3
+
+-- no envelope has a stage above 3
+unfoldable pub allStages : List Envelope → Bool
+allStages [] = true
+allStages (e ∷ es) = isStage (e .stage) && allStages es
 
 -- rates and levels are at most 99; otherwise 6
 unfoldable pub allFit : List ℕ → Bool

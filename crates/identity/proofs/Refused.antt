@@ -18,6 +18,7 @@ use Rattle.algorithms.specs.Plan.{callOf, reading, ready, unready, extended, pl
 use Rattle.algorithms.specs.Table.{six, tabled, rowOf, withRow, compiled}
 use Rattle.opcodes.specs.Opcodes.{sixOperators}
 use Rattle.envelope.specs.Envelope.{initialised}
+use Rattle.envelope.specs.Answers.{allStages}
 use Rattle.lfo.specs.declared.Lfo.{Lfo}
 use Rattle.lfo.specs.Lfo.{freshLfo, adjusted}
 use Rattle.lfo.specs.Answers as lfo
@@ -25,7 +26,6 @@ use Rattle.voice.specs.declared.Voice.{Voice}
 use Rattle.voice.specs.Voice.{voiceWith, freshVoice}
 use Rattle.voice.specs.Answers as voice
 use Rattle.limits.specs.Ranges.{sampleRateFits}
-use Rattle.voice_levels.specs.Levels.{allStages}
 use Rattle.identity.specs.Identity.{readied, identityOf}
 
 -- the rows below n of the table are accepted

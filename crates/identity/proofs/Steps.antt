@@ -21,10 +21,11 @@ use Rattle.lfo.specs.declared.Moved.{Moved}
 use Rattle.lfo.specs.declared.Read.{Read}
 use Rattle.lfo.specs.Answers as lfo
 use Rattle.voice.specs.declared.Voice.{Voice}
-use Rattle.voice.specs.declared.VoiceParameters.{VoiceParameters}
 use Rattle.voice.specs.declared.Prepared.{Prepared}
 use Rattle.voice.specs.declared.Loaded.{Loaded}
 use Rattle.voice.specs.Answers as voice
+use Rattle.voice_render.specs.declared.VoiceParameters.{VoiceParameters}
+use Rattle.voice_render.specs.Answers.{Answered, renderAnswer}
 use Rattle.identity.specs.declared.Ready.{Ready}
 use Rattle.identity.specs.declared.Playing.{Playing}
 use Rattle.identity.specs.declared.Identified.{Identified}
@@ -59,15 +60,15 @@ readied-of p et em el es eset er en = rw (en, er, eset, es, el, em, et) refl
 
 module _ (pairs high low : List Float) where
   pub set-up-of : (v : Voice) (note : Float) {q : VoiceParameters} {number : ℕ} {w : Voice} {block : List Float} → q ≡ parametersOf note false (decimal 0 0) (decimal 0 0)
-      → record { number = number; voice = w; block = block } ≡ voice.renderAnswer pairs high low v q silence → w ≡ setUpFor pairs high low v note
+      → record { number = number; voice = w; block = block } ≡ renderAnswer pairs high low v q silence → w ≡ setUpFor pairs high low v note
   unfolding setUpFor
-  set-up-of v note eq e = ap (λ (a : voice.Answered). a .voice) (rw eq at e)
+  set-up-of v note eq e = ap (λ (a : Answered). a .voice) (rw eq at e)
 
 module _ (lut pairs high low : List Float) where
   pub block-played-of : (note : Float) (gate : Bool) (s : Playing) {m : Moved} {pitch amp : Read} {q : VoiceParameters} {number hash : ℕ} {w : Voice} {block : List Float}
       → m ≡ lfo.stepAnswer lut (s .lfo) (s .random) (decimal 64 0) → pitch ≡ lfo.pitchModAnswer (m .lfo) → amp ≡ lfo.ampModAnswer (m .lfo)
       → q ≡ parametersOf note gate (pitch .value) (amp .value)
-      → record { number = number; voice = w; block = block } ≡ voice.renderAnswer pairs high low (s .voice) q silence
+      → record { number = number; voice = w; block = block } ≡ renderAnswer pairs high low (s .voice) q silence
       → hash ≡ hashedSamples block 64 (s .hash)
       → record { voice = w; lfo = m .lfo; random = m .state; hash = hash } ≡ blockPlayed lut pairs high low note gate s
   unfolding blockPlayed

@@ -13,8 +13,9 @@ use Rattle.patch.specs.declared.Patch.{Patch}
 use Rattle.opcodes.specs.Opcodes.{sixOperators}
 use Rattle.lfo.specs.Answers as lfo
 use Rattle.voice.specs.declared.Voice.{Voice}
-use Rattle.voice.specs.declared.VoiceParameters.{VoiceParameters}
 use Rattle.voice.specs.Answers as voice
+use Rattle.voice_render.specs.declared.VoiceParameters.{VoiceParameters}
+use Rattle.voice_render.specs.Answers.{renderAnswer}
 use Rattle.identity.specs.declared.Ready.{Ready}
 use Rattle.identity.specs.declared.Playing.{Playing}
 use Rattle.identity.specs.declared.Identified.{Identified}
@@ -49,7 +50,7 @@ silence = replicate 256 (decimal 0 0)
 module _ (pairs high low : List Float) where
   -- a blank block sets the voice up: gate off, no modulation, the LFO does not step
   unfoldable pub setUpFor : Voice → Float → Voice
-  setUpFor v note = voice.renderAnswer pairs high low v (parametersOf note false (decimal 0 0) (decimal 0 0)) silence .voice
+  setUpFor v note = renderAnswer pairs high low v (parametersOf note false (decimal 0 0) (decimal 0 0)) silence .voice
 
 module _ (lut pairs high low : List Float) where
   -- the LFO steps by 64, its modulations become the block's, and the block's samples are hashed
@@ -57,7 +58,7 @@ module _ (lut pairs high low : List Float) where
   blockPlayed note gate s =
       let m = lfo.stepAnswer lut (s .lfo) (s .random) (decimal 64 0) in
       let p = parametersOf note gate (lfo.pitchModAnswer (m .lfo) .value) (lfo.ampModAnswer (m .lfo) .value) in
-      let a = voice.renderAnswer pairs high low (s .voice) p silence in
+      let a = renderAnswer pairs high low (s .voice) p silence in
       record { voice = a .voice; lfo = m .lfo; random = m .state; hash = hashedSamples (a .block) 64 (s .hash) }
 
   -- so many blocks, one after the other

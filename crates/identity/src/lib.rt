@@ -10,7 +10,7 @@ ghost use Rattle.identity.specs.Identity.{readied, parametersOf, setUpFo
 use lfo::Lfo;
 use patch::Patch;
 use voice::Voice;
-use voice::VoiceParameters;
+use voice_render::VoiceParameters;
 
 const HASH_BASIS: u64 = 0xcbf2_9ce4_8422_2325;
 
@@ -137,7 +137,7 @@ fn play_block(
     let p = parameters(note, gate, pitch.value, amp.value);
     let v = s.voice;
     let mut block = [0.0f32; 256];
-    let rendered = voice::render_with(pairs, high, low, v, p, &mut block);
+    let rendered = voice_render::render_with(pairs, high, low, v, p, &mut block);
     let hash = hash_output(&block, s.hash);
     let voice = rendered.voice;
     Playing {
@@ -175,7 +175,7 @@ fn set_up(pairs: &[f32; 1024], high: &[f32; 256], low: &[f32; 256], v: Voice, no
 {
     let p = parameters(note, false, 0.0, 0.0);
     let mut block = [0.0f32; 256];
-    let rendered = voice::render_with(pairs, high, low, v, p, &mut block);
+    let rendered = voice_render::render_with(pairs, high, low, v, p, &mut block);
     rendered.voice
 }
 

@@ -12,11 +12,13 @@ use Rattle.units.specs.Tables.{lutPitchRatioHigh, lutPitchRatioLow}
 use Rattle.algorithms.proofs.Accepted.{SafePlan, planned-safe}
 use Rattle.block.proofs.Same.{same-sound}
 use Rattle.voice.specs.declared.Voice.{Voice}
-use Rattle.voice.specs.declared.VoiceParameters.{VoiceParameters}
-use Rattle.voice.specs.Voice.{setUp}
-use Rattle.voice.specs.Block.{begun, after, levelsFor, played, sounded}
-use Rattle.voice.specs.Answers.{stateFits, blockFits, parametersFit, Answered, unsounded, sounding, renderAnswer}
-use Rattle.voice.proofs.Blocks.{stored, clean-has, block-whole}
+use Rattle.voice.specs.Answers.{stateFits}
+use Rattle.voice.proofs.States.{stored, clean-has}
+use Rattle.voice_render.specs.declared.VoiceParameters.{VoiceParameters}
+use Rattle.voice_render.specs.Setup.{setUp}
+use Rattle.voice_render.specs.Block.{begun, after, levelsFor, played, sounded}
+use Rattle.voice_render.specs.Answers.{blockFits, parametersFit, Answered, unsounded, sounding, renderAnswer}
+use Rattle.voice_render.proofs.Blocks.{block-whole}
 use Rattle.runs.specs.Run.{Call, State, Step, rendered, stepOf, run, ending}
 use Rattle.runs.specs.Alike.{output, Alike, equal, blocks, AllAlike, none, more, heard}
 use Rattle.runs.proofs.Plans.{ran-length}

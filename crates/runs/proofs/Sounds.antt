@@ -31,6 +31,7 @@ use Rattle.algorithms.specs.Plan.{callOf, reading, ready, unready, extended, pl
 use Rattle.algorithms.specs.Table.{six, tabled, rowOf, withRow, compiled}
 use Rattle.envelope.specs.Envelope.{initialised, previousLevel, startOf, line, segment, valueAt, currentValue, gated, steppedPhase, advanced}
 use Rattle.envelope.specs.Envelope as envelope
+use Rattle.envelope.specs.Answers.{allStages}
 use Rattle.envelope.specs.Set.{operatorSet, pitchSet}
 use Rattle.stages.specs.Stages.{jump, operatorStageLevel, risingIncrement, operatorStageIncrement, operatorLevels, operatorIncrements, pitchStageIncrement, pitchLevels, pitchIncrements}
 use Rattle.operator.specs.Chain.{entered, kept, through, allMoved, heard, next, ended, written}
@@ -41,13 +42,15 @@ use Rattle.block.specs.Calls as calls
 use Rattle.block.specs.Quarters.{split, joined}
 use Rattle.voice_setup.specs.Setup.{headroomOf, operatorSetUp, setUpTo}
 use Rattle.voice_setup.specs.Setup as setup
-use Rattle.voice_levels.specs.Levels.{timingFor, followed, noteFrequency, frequencyBy, brightnessOf, scalingOf, amplitudeOf, leveled, leveledTo, allStages}
+use Rattle.voice_levels.specs.Levels.{timingFor, followed, noteFrequency, frequencyBy, brightnessOf, scalingOf, amplitudeOf, leveled, leveledTo}
 use Rattle.voice_levels.specs.Levels as levels
 use Rattle.limits.specs.Ranges.{sampleRateFits}
-use Rattle.voice.specs.Answers.{patchSound, stateFits, blockFits, parametersFit, initAnswer, loaded, setPatchAnswer, renderAnswer}
-use Rattle.voice.specs.Block.{noteOn, struck, begun, entering, after, levelsFor, played}
-use Rattle.voice.specs.Block as block
-use Rattle.voice.specs.Voice.{voiceWith, freshVoice, withPatch, withSetup, setUp}
+use Rattle.voice.specs.Answers.{patchSound, stateFits, initAnswer, loaded, setPatchAnswer}
+use Rattle.voice.specs.Voice.{voiceWith, freshVoice, withPatch}
+use Rattle.voice_render.specs.Answers.{blockFits, parametersFit, renderAnswer}
+use Rattle.voice_render.specs.Block.{noteOn, struck, begun, entering, after, levelsFor, played}
+use Rattle.voice_render.specs.Block as block
+use Rattle.voice_render.specs.Setup.{withSetup, setUp}
 use Rattle.runs.specs.Alike.{output}
 use Rattle.runs.specs.Run.{stepOf, run}
 use Rattle.runs.specs.Example.{patchOf, callsFor, runFor, numbersOf, lastOutput}

@@ -20,20 +20,21 @@ use Rattle.algorithms.specs.Chain.{rendered}
 use Rattle.algorithms.specs.Plan.{callOf, noPlan, ready, unready, extended, refusal, planFrom, counted, planned, samePlan, isPlanOf}
 use Rattle.algorithms.specs.Table.{tabled, rowOf, withRow, compiled}
 use Rattle.algorithms.proofs.Same.{same-plan-self}
-use Rattle.envelope.specs.Answers.{isStage}
+use Rattle.envelope.specs.Answers.{isStage, allStages}
 use Rattle.envelope.specs.Envelope.{initialised}
 use Rattle.envelope.specs.Set.{operatorSet, pitchSet}
 use Rattle.voice_setup.specs.declared.Setup.{Setup}
 use Rattle.voice_setup.specs.Setup.{operatorSetUp, putAt, setUpTo}
-use Rattle.voice_levels.specs.Levels.{allStages}
 use Rattle.voice_levels.proofs.Stages.{stage-at-fits, set-keeps-stages, leveled-keeps-stages, followed-stage}
 use Rattle.voice.specs.declared.Voice.{Voice}
-use Rattle.voice.specs.declared.VoiceParameters.{VoiceParameters}
-use Rattle.voice.specs.Voice.{voiceWith, freshVoice, noVoice, withPatch, withoutPatch, withSetup, setUp}
-use Rattle.voice.specs.Block.{begun, after, levelsFor, sounded}
+use Rattle.voice.specs.Voice.{voiceWith, freshVoice, noVoice, withPatch, withoutPatch}
 use Rattle.limits.specs.Ranges.{sampleRateFits}
-use Rattle.voice.specs.Answers.{patchSound, stateFits, blockFits, parametersFit, prepared, initAnswer, loaded, notLoaded, setPatchAnswer, takePatchAnswer, Answered, unsounded, sounding, renderAnswer}
+use Rattle.voice.specs.Answers.{patchSound, stateFits, prepared, initAnswer, loaded, notLoaded, setPatchAnswer, takePatchAnswer}
 use Rattle.voice.proofs.States.{Fits, state-fits}
+use Rattle.voice_render.specs.declared.VoiceParameters.{VoiceParameters}
+use Rattle.voice_render.specs.Setup.{withSetup, setUp}
+use Rattle.voice_render.specs.Block.{begun, after, levelsFor, sounded}
+use Rattle.voice_render.specs.Answers.{blockFits, parametersFit, Answered, unsounded, sounding, renderAnswer}
 
 -- a number that is no 9
 abbrev pub NoNine : ℕ → Type 0

@@ -5,8 +5,8 @@ use mathlib.Core.Bool.{cond}
 use mathlib.Core.List.{List, [], _∷_}
 use lib.ListN.{length, take}
 use lib.Ieee.{Float}
-use Rattle.voice.specs.declared.VoiceParameters.{VoiceParameters}
-use Rattle.voice.specs.Answers.{blockFits}
+use Rattle.voice_render.specs.declared.VoiceParameters.{VoiceParameters}
+use Rattle.voice_render.specs.Answers.{blockFits}
 use Rattle.runs.specs.Run.{Call, Render, Step}
 
 -- the output of a block: its first quarter; a slice of a length that 8 names has no quarters

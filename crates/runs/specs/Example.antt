@@ -9,8 +9,8 @@ use Rattle.patch.specs.declared.Envelope.{Envelope}
 use Rattle.patch.specs.declared.Operator.{Operator}
 use Rattle.patch.specs.declared.Patch.{Patch}
 use Rattle.patch.specs.Form.{scalingWith, modulationsWith}
-use Rattle.voice.specs.declared.VoiceParameters.{VoiceParameters}
 use Rattle.voice.specs.Voice.{sixOf}
+use Rattle.voice_render.specs.declared.VoiceParameters.{VoiceParameters}
 use Rattle.runs.specs.Run.{Call, Start, SetPatch, Render, Step, run}
 use Rattle.runs.specs.Alike.{output}
 use Rattle.runs.specs.Good.{fresh}

@@ -15,10 +15,11 @@ use Rattle.lfo.specs.declared.Prepared as lfoPrepared
 use Rattle.lfo.specs.Answers as lfoAnswers
 use Rattle.lfo.specs.Played as lfo
 use Rattle.voice.specs.declared.Voice.{Voice}
-use Rattle.voice.specs.declared.VoiceParameters.{VoiceParameters}
 use Rattle.voice.specs.declared.Prepared.{Prepared}
 use Rattle.voice.specs.declared.Loaded.{Loaded}
-use Rattle.voice.specs.Answers.{Answered, initAnswer, setPatchAnswer, takePatchAnswer, renderAnswer}
+use Rattle.voice.specs.Answers.{initAnswer, setPatchAnswer, takePatchAnswer}
+use Rattle.voice_render.specs.declared.VoiceParameters.{VoiceParameters}
+use Rattle.voice_render.specs.Answers.{Answered, renderAnswer}
 
 -- a call of an entry, with its arguments; a block is what its buffer holds before the call
 pub data Call : Type 0 where

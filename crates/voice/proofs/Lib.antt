@@ -1,4 +1,4 @@
 -- laws for the functions' proofs, and for the crates above
 pub mod Tests
 pub mod States
-pub mod Blocks
+pub mod Patches

@@ -12,8 +12,7 @@ use Rattle.patch.specs.Packed.{patchFits}
 use Rattle.algorithms.specs.declared.Plan.{Plan}
 use Rattle.algorithms.specs.Plan.{counted, planned, samePlan, isPlanOf}
 use Rattle.algorithms.proofs.Same.{same-plan-equal}
-use Rattle.envelope.specs.Answers.{isStage}
-use Rattle.voice_levels.specs.Levels.{allStages}
+use Rattle.envelope.specs.Answers.{isStage, allStages}
 use Rattle.voice.specs.declared.Voice.{Voice}
 use Rattle.voice.specs.Answers.{patchSound, stateFits}
 
@@ -95,3 +94,17 @@ state-fits v t =
       pitch = leb→le (v .«pitch_envelope» .stage) 3 (and-l c d tc);
       patched = and-r c d tc;
     }
+
+-- a patch that is there is sound
+pub stored : (v : Voice) → T (stateFits v) → v .«has_patch» ≡ true → Sound (v .operators) (v .patch) (v .row) (v .plan)
+stored v t h =
+    patch-sound _ _ _ _ (subst (λ (b : Bool). T (cond b (patchSound (v .operators) (v .patch) (v .row) (v .plan)) (v .dirty))) h (state-fits v t .patched))
+
+-- a clean voice has a patch
+pub clean-has : (v : Voice) → T (stateFits v) → v .dirty ≡ false → v .«has_patch» ≡ true
+clean-has v t d = go (v .«has_patch») refl
+  where
+    go : (b : Bool) → v .«has_patch» ≡ b → v .«has_patch» ≡ true
+    go true h = h
+    go false h =
+        absurd (subst T d (subst (λ (b : Bool). T (cond b (patchSound (v .operators) (v .patch) (v .row) (v .plan)) (v .dirty))) h (state-fits v t .patched)))

@@ -9,10 +9,10 @@ use lib.Dec.{leb}
 use lib.ListN.{length}
 use mathlib.Core.Bool.{_&&_, and-assoc, and-true}
 use Rattle.envelope.specs.declared.Envelope.{Envelope}
+use Rattle.envelope.specs.Answers.{allStages}
 use Rattle.patch.specs.declared.Patch.{Patch}
 use Rattle.patch.specs.Packed.{patchFits, checkOf}
 use Rattle.voice_setup.specs.Setup.{envelopeAt}
-use Rattle.voice_levels.specs.Levels.{allStages}
 
 -- a refusal's test s, as a call gives it in u
 module _ {u s : Bool} (e : u ≡ s) where

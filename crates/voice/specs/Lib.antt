@@ -1,4 +1,3 @@
 -- the definitions that the contracts cite
 pub mod Voice
-pub mod Block
 pub mod Answers

@@ -2,7 +2,7 @@
 use libc::STDOUT_FILENO;
 use patch::Patch;
 use voice::Voice;
-use voice::VoiceParameters;
+use voice_render::VoiceParameters;
 
 fn line(text: &[u8], n: u64) {
     io::write_all(STDOUT_FILENO, text);
@@ -54,10 +54,10 @@ fn starts() {
 // The easy slip: a blank block does not record the gate.
 fn gates() {
     let mut block = [0.0f32; 8];
-    let blank = voice::render(dirty(), parameters(60.0), &mut block);
+    let blank = voice_render::render(dirty(), parameters(60.0), &mut block);
     let v = blank.voice;
     line(b"gate after a blank block: ", v.gate as u64);
-    let sounding = voice::render(v, parameters(60.0), &mut block);
+    let sounding = voice_render::render(v, parameters(60.0), &mut block);
     let w = sounding.voice;
     line(b"gate after a sounding block: ", w.gate as u64);
 }
@@ -71,19 +71,19 @@ fn blocks() {
     let p = parameters(60.0);
     line(
         b"block of no numbers: ",
-        voice::render(v, p, &mut two[..0]).number as u64,
+        voice_render::render(v, p, &mut two[..0]).number as u64,
     );
     line(
         b"block of 5 numbers: ",
-        voice::render(v, p, &mut five).number as u64,
+        voice_render::render(v, p, &mut five).number as u64,
     );
     line(
         b"block of 4096 numbers: ",
-        voice::render(v, p, &mut most).number as u64,
+        voice_render::render(v, p, &mut most).number as u64,
     );
     line(
         b"block of 4100 numbers: ",
-        voice::render(v, p, &mut more).number as u64,
+        voice_render::render(v, p, &mut more).number as u64,
     );
 }
 
@@ -92,7 +92,7 @@ fn refusals() {
     let v = dirty();
     line(
         b"note 128: ",
-        voice::render(v, parameters(128.0), &mut block).number as u64,
+        voice_render::render(v, parameters(128.0), &mut block).number as u64,
     );
     line(
         b"taking the patch out: ",

@@ -9,7 +9,7 @@ use lib.ListN.{getD, set}
 use lib.Ieee.{Float, nan}
 use lib.Ieee.Fits.{and-l, and-r, and-i}
 use Rattle.envelope.specs.declared.Envelope.{Envelope}
-use Rattle.envelope.specs.Answers.{isStage}
+use Rattle.envelope.specs.Answers.{isStage, allStages}
 use Rattle.envelope.proofs.Laws.{rendered-stage}
 use Rattle.patch.specs.declared.Operator.{Operator}
 use Rattle.patch.specs.Form.{operatorAt}
@@ -17,7 +17,7 @@ use Rattle.voice_setup.specs.declared.Tuned.{Tuned}
 use Rattle.voice_setup.specs.Setup.{envelopeAt}
 use Rattle.voice_levels.specs.declared.Timing.{Timing}
 use Rattle.voice_levels.specs.declared.Scene.{Scene}
-use Rattle.voice_levels.specs.Levels.{followed, leveled, putAt, noTuned, leveledTo, allStages}
+use Rattle.voice_levels.specs.Levels.{followed, leveled, putAt, noTuned, leveledTo}
 
 -- an envelope of those that have no stage above 3
 pub stage-at-fits : (es : List Envelope) (k : ℕ) → T (allStages es) → envelopeAt es k .stage ≤ 3

@@ -1,7 +1,7 @@
 -- The numbers of a sounding block, after voice.rs, with one rounding per written operation, in the Rust's order. Definitions only.
 use Prim.Native.Nat.{ℕ, zero, suc}
-use mathlib.Core.Bool.{Bool, true, cond, _&&_}
-use mathlib.Core.List.{List, [], _∷_}
+use mathlib.Core.Bool.{Bool, true, cond}
+use mathlib.Core.List.{List}
 use lib.IntN.{pos}
 use lib.ListN.{getD, set, replicate}
 use lib.Ieee.{Float, nan, neg}
@@ -15,7 +15,6 @@ use Rattle.conversions.specs.declared.Ratio.the-variants.{Note, Hertz}
 use Rattle.envelope.specs.declared.Envelope.{Envelope}
 use Rattle.envelope.specs.Envelope.{movedTo, rendered, currentValue}
 use Rattle.envelope.specs.Scrub.{scrubbed}
-use Rattle.envelope.specs.Answers.{isStage}
 use Rattle.patch.specs.declared.Operator.{Operator}
 use Rattle.patch.specs.Form.{operatorAt}
 use Rattle.algorithms.specs.Opcode.{modulating}
@@ -154,8 +153,3 @@ module _ (g : Scene) (ops : List Operator) where
   soundedTo levels (suc k) =
       let s = soundedTo levels k in
       set s k (amplitudeOf (g .«amp_mod») (operatorAt ops k .«amp_mod_sensitivity») (getD s k nan))
-
--- no envelope has a stage above 3
-unfoldable pub allStages : List Envelope → Bool
-allStages [] = true
-allStages (e ∷ es) = isStage (e .stage) && allStages es

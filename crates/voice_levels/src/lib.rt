@@ -3,9 +3,10 @@
 ghost use mathlib.Core.Path.{_≡_};
 ghost use Prim.Native.Nat.{_≤_};
 ghost use lib.Dec.{T};
+ghost use Rattle.envelope.specs.Answers.{allStages};
 ghost use Rattle.patch.specs.Packed.{operatorsFit};
 ghost use Rattle.voice_levels.specs.Levels.{timingFor, followed, noteFrequency, frequencyOf, scalingOf, levelModOf, amplitudeOf};
-ghost use Rattle.voice_levels.specs.Levels.{brightnessOf, taken, raised, raisedTo, raisedBy, soundedTo, leveledTo, allStages};
+ghost use Rattle.voice_levels.specs.Levels.{brightnessOf, taken, raised, raisedTo, raisedBy, soundedTo, leveledTo};
 use conversions::Ratio;
 use envelope::Envelope;
 use voice_setup::Tuned;

@@ -1,6 +1,6 @@
 -- `voice::load` meets its contract. Assumes nothing.
 use borrow.Author.Needs.{needs}
-use Rattle.voice.proofs.Blocks.{load-refused, load-accepted}
+use Rattle.voice.proofs.Patches.{load-refused, load-accepted}
 use Rattle.voice.proofs.load.Statement.{statement}
 use Rattle.voice.proofs.load.Tie as tie
 

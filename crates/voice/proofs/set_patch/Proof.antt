@@ -1,7 +1,7 @@
 -- `voice::set_patch` meets its contract. Assumes nothing.
 use borrow.Author.Needs.{needs}
 use Rattle.voice.proofs.Tests.{refused, accepted, check-refused, check-accepted}
-use Rattle.voice.proofs.Blocks.{set-patch-9, set-patch-6, set-patch-on}
+use Rattle.voice.proofs.Patches.{set-patch-9, set-patch-6, set-patch-on}
 use Rattle.voice.proofs.set_patch.Statement.{statement}
 use Rattle.voice.proofs.set_patch.Tie as tie
 

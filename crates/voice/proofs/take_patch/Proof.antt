@@ -1,7 +1,7 @@
 -- `voice::take_patch` meets its contract. Assumes nothing.
 use borrow.Author.Needs.{needs}
 use Rattle.voice.proofs.Tests.{refused, accepted}
-use Rattle.voice.proofs.Blocks.{take-patch-9, take-patch-on}
+use Rattle.voice.proofs.Patches.{take-patch-9, take-patch-on}
 use Rattle.voice.proofs.take_patch.Statement.{statement}
 use Rattle.voice.proofs.take_patch.Tie as tie
 

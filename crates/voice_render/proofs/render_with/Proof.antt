@@ -1,11 +1,11 @@
--- `voice::render_with` meets its contract. Assumes nothing.
+-- `voice_render::render_with` meets its contract. Assumes nothing.
 use borrow.Author.Needs.{needs}
 use mathlib.Core.Path.{sym, subst}
 use lib.Dec.{T}
 use Rattle.voice.proofs.Tests.{refused, accepted}
-use Rattle.voice.proofs.Blocks.{render-9, render-8, render-7, render-blank, render-sound}
-use Rattle.voice.proofs.render_with.Statement.{statement}
-use Rattle.voice.proofs.render_with.Tie as tie
+use Rattle.voice_render.proofs.Blocks.{render-9, render-8, render-7, render-blank, render-sound}
+use Rattle.voice_render.proofs.render_with.Statement.{statement}
+use Rattle.voice_render.proofs.render_with.Tie as tie
 
 state-fits-requires : tie.Need-state-fits-requires
 state-fits-requires c κs = search needs

@@ -1,10 +1,10 @@
--- `voice::setup` meets its contract. Assumes nothing.
+-- `voice_render::setup` meets its contract. Assumes nothing.
 use borrow.Author.Needs.{needs}
 use borrow.Author.Tests.{not-true, not-false}
-use Rattle.voice.proofs.States.{state-fits}
-use Rattle.voice.proofs.Blocks.{count-at-most-6, operators-of, stored, no-setup, set-up}
-use Rattle.voice.proofs.setup.Statement.{statement}
-use Rattle.voice.proofs.setup.Tie as tie
+use Rattle.voice.proofs.States.{state-fits, stored}
+use Rattle.voice_render.proofs.Blocks.{count-at-most-6, operators-of, no-setup, set-up}
+use Rattle.voice_render.proofs.setup.Statement.{statement}
+use Rattle.voice_render.proofs.setup.Tie as tie
 
 returns : tie.Need-returns
 returns c = no-setup _ _ _ (not-true _ (c .if1 .taken))

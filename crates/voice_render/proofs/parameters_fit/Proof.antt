@@ -1,11 +1,11 @@
--- `voice::parameters_fit` meets its contract. Assumes nothing.
+-- `voice_render::parameters_fit` meets its contract. Assumes nothing.
 use borrow.Author.Needs.{needs}
-use Rattle.voice.specs.Answers.{parametersFit}
+use Rattle.voice_render.specs.Answers.{parametersFit}
 use mathlib.Core.Path.{refl}
 use Rattle.numbers.specs.F32.{decimal, minusDecimal}
 use lib.Ieee.{ofBits, neg}
-use Rattle.voice.proofs.parameters_fit.Statement.{statement}
-use Rattle.voice.proofs.parameters_fit.Tie as tie
+use Rattle.voice_render.proofs.parameters_fit.Statement.{statement}
+use Rattle.voice_render.proofs.parameters_fit.Tie as tie
 
 between-requires : tie.Need-between-requires
 between-requires c κs = search needs

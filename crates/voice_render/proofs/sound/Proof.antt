@@ -1,13 +1,13 @@
--- `voice::sound` meets its contract. Assumes nothing.
+-- `voice_render::sound` meets its contract. Assumes nothing.
 use native.Mathlib.Omega.{arith}
 use borrow.Author.Needs.{needs}
 use mathlib.Core.Path.{sym, subst}
 use Rattle.block.specs.Calls.{Playable}
 use Rattle.block.proofs.Accepted.{accepted-playable}
-use Rattle.voice.proofs.States.{state-fits}
-use Rattle.voice.proofs.Blocks.{count-at-most-6, operators-of, stored, clean-has, block-small, block-whole, sounded-of}
-use Rattle.voice.proofs.sound.Statement.{statement}
-use Rattle.voice.proofs.sound.Tie as tie
+use Rattle.voice.proofs.States.{state-fits, stored, clean-has}
+use Rattle.voice_render.proofs.Blocks.{count-at-most-6, operators-of, block-small, block-whole, sounded-of}
+use Rattle.voice_render.proofs.sound.Statement.{statement}
+use Rattle.voice_render.proofs.sound.Tie as tie
 
 cast-begin : tie.Need-cast-begin
 cast-begin c = let small = block-small _ (c .before .pre .2) in omega arith

@@ -1,8 +1,8 @@
--- `voice::strike` meets its contract. Assumes nothing.
+-- `voice_render::strike` meets its contract. Assumes nothing.
 use borrow.Author.Needs.{needs}
-use Rattle.voice.proofs.Blocks.{struck-now, struck-before}
-use Rattle.voice.proofs.strike.Statement.{statement}
-use Rattle.voice.proofs.strike.Tie as tie
+use Rattle.voice_render.proofs.Blocks.{struck-now, struck-before}
+use Rattle.voice_render.proofs.strike.Statement.{statement}
+use Rattle.voice_render.proofs.strike.Tie as tie
 
 note-on-requires : tie.Need-note-on-requires
 note-on-requires c κs = search needs

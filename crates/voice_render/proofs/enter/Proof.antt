@@ -1,8 +1,8 @@
--- `voice::enter` meets its contract. Assumes nothing.
+-- `voice_render::enter` meets its contract. Assumes nothing.
 use borrow.Author.Needs.{needs}
-use Rattle.voice.proofs.Blocks.{entering-anew, entering-on, all-restarted}
-use Rattle.voice.proofs.enter.Statement.{statement}
-use Rattle.voice.proofs.enter.Tie as tie
+use Rattle.voice_render.proofs.Blocks.{entering-anew, entering-on, all-restarted}
+use Rattle.voice_render.proofs.enter.Statement.{statement}
+use Rattle.voice_render.proofs.enter.Tie as tie
 
 note-on-requires : tie.Need-note-on-requires
 note-on-requires c κs = search needs

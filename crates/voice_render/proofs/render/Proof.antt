@@ -1,8 +1,8 @@
--- `voice::render` meets its contract. Assumes nothing.
+-- `voice_render::render` meets its contract. Assumes nothing.
 use borrow.Author.Needs.{needs}
-use Rattle.voice.proofs.Blocks.{with-tables}
-use Rattle.voice.proofs.render.Statement.{statement}
-use Rattle.voice.proofs.render.Tie as tie
+use Rattle.voice_render.proofs.Blocks.{with-tables}
+use Rattle.voice_render.proofs.render.Statement.{statement}
+use Rattle.voice_render.proofs.render.Tie as tie
 
 sine-pairs-requires : tie.Need-sine-pairs-requires
 sine-pairs-requires c κs = search needs

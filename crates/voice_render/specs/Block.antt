@@ -14,10 +14,10 @@ use Rattle.voice_levels.specs.declared.Timing.{Timing}
 use Rattle.voice_levels.specs.declared.Scene.{Scene}
 use Rattle.voice_levels.specs.declared.Levels.{Levels}
 use Rattle.voice_levels.specs.Levels.{timingFor, followed, noteFrequency, leveledTo}
 use Rattle.voice.specs.declared.Voice.{Voice}
-use Rattle.voice.specs.declared.VoiceParameters.{VoiceParameters}
-use Rattle.voice.specs.declared.Struck.{Struck}
-use Rattle.voice.specs.declared.Begun.{Begun}
+use Rattle.voice_render.specs.declared.VoiceParameters.{VoiceParameters}
+use Rattle.voice_render.specs.declared.Struck.{Struck}
+use Rattle.voice_render.specs.declared.Begun.{Begun}
 
 -- a note-on: the gate opens
 unfoldable pub noteOn : Voice → VoiceParameters → Bool

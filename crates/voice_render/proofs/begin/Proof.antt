@@ -1,8 +1,8 @@
--- `voice::begin` meets its contract. Assumes nothing.
+-- `voice_render::begin` meets its contract. Assumes nothing.
 use borrow.Author.Needs.{needs}
-use Rattle.voice.proofs.Blocks.{begun-of}
-use Rattle.voice.proofs.begin.Statement.{statement}
-use Rattle.voice.proofs.begin.Tie as tie
+use Rattle.voice_render.proofs.Blocks.{begun-of}
+use Rattle.voice_render.proofs.begin.Statement.{statement}
+use Rattle.voice_render.proofs.begin.Tie as tie
 
 timing-for-requires : tie.Need-timing-for-requires
 timing-for-requires c κs = search needs

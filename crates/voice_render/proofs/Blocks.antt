@@ -4,7 +4,7 @@ use mathlib.Core.Bool.{Bool, true, false, cond, not, _&&_, _||_}
 use mathlib.Core.List.{List, [], _∷_}
 use Prim.Native.Nat.{ℕ, _/_, _%_, _≤_}
 use native.Mathlib.Omega.{arith}
-use borrow.Author.Tests.{eqb-true, eq-eqb, ne-eqb}
+use borrow.Author.Tests.{eqb-true}
 use lib.Dec.{T, eqb, leb, leb→le}
 use lib.ListN.{length, getD}
 use lib.Ieee.{Float}
@@ -16,12 +16,7 @@ use Rattle.conversions.specs.Units.{normalizedVelocity}
 use Rattle.patch.specs.declared.Patch.{Patch}
 use Rattle.patch.specs.Packed.{patchFits, operatorsFit, stagesFit, modulationsFit, nameFits}
 use Rattle.limits.proofs.Within.{patch-fits}
-use Rattle.algorithms.specs.declared.Compiled.{Compiled}
-use Rattle.algorithms.specs.declared.Plan.{Plan}
-use Rattle.algorithms.specs.Plan.{counted, noPlan}
-use Rattle.algorithms.specs.Table.{six, compiled}
-use Rattle.patch.specs.Form.{zeroPatch}
-use Rattle.voice.specs.declared.Loaded.{Loaded}
+use Rattle.algorithms.specs.Plan.{counted}
 use Rattle.envelope.specs.declared.Envelope.{Envelope}
 use Rattle.envelope.specs.Set.{pitchSet}
 use Rattle.operator.specs.declared.Operator.{Operator}
@@ -33,16 +28,16 @@ use Rattle.voice_levels.specs.declared.Timing.{Timing}
 use Rattle.voice_levels.specs.declared.Followed.{Followed}
 use Rattle.voice_levels.specs.declared.Levels.{Levels}
 use Rattle.voice_levels.specs.Levels.{timingFor, followed, noteFrequency, leveledTo}
 use Rattle.voice.specs.declared.Voice.{Voice}
-use Rattle.voice.specs.declared.VoiceParameters.{VoiceParameters}
-use Rattle.voice.specs.declared.Struck.{Struck}
-use Rattle.voice.specs.declared.Begun.{Begun}
-use Rattle.voice.specs.Voice.{withPatch, withoutPatch, withSetup, setUp}
-use Rattle.voice.specs.Block.{noteOn, struck, begun, restartedAt, allRestarted, entering, levelsFor, after, Sounded, played, sounded}
-use Rattle.voice.specs.Answers.{patchSound, stateFits, blockFits, parametersFit, loaded, Answered, unsounded, sounding, renderAnswer, notLoaded, setPatchAnswer, prepared, takePatchAnswer}
-use Rattle.voice.proofs.States.{Sound, Fits, patch-sound, state-fits}
+use Rattle.voice.specs.Answers.{stateFits}
+use Rattle.voice_render.specs.declared.VoiceParameters.{VoiceParameters}
+use Rattle.voice_render.specs.declared.Struck.{Struck}
+use Rattle.voice_render.specs.declared.Begun.{Begun}
+use Rattle.voice_render.specs.Setup.{withSetup, setUp}
+use Rattle.voice_render.specs.Block.{noteOn, struck, begun, restartedAt, allRestarted, entering, levelsFor, after, Sounded, played, sounded}
+use Rattle.voice_render.specs.Answers.{blockFits, parametersFit, Answered, unsounded, sounding, renderAnswer}
 
--- ---- accepted states
+-- ---- what is accepted
 
 -- an accepted patch has six operators that fit
 pub operators-of : (p : Patch) → T (patchFits p) → T (operatorsFit (p .op))
@@ -68,20 +63,6 @@ count-at-most-6 n t = go (eqb n 4) refl (eqb n 6) refl
     go false p true q = let z = eqb-true n 6 q in omega arith
     go false p false q = let z : (eqb n 4 || eqb n 6) ≡ false = simp (p, q) in absurd (subst T z t)
 
--- a patch that is there is sound
-pub stored : (v : Voice) → T (stateFits v) → v .«has_patch» ≡ true → Sound (v .operators) (v .patch) (v .row) (v .plan)
-stored v t h =
-    patch-sound _ _ _ _ (subst (λ (b : Bool). T (cond b (patchSound (v .operators) (v .patch) (v .row) (v .plan)) (v .dirty))) h (state-fits v t .patched))
-
--- a clean voice has a patch
-pub clean-has : (v : Voice) → T (stateFits v) → v .dirty ≡ false → v .«has_patch» ≡ true
-clean-has v t d = go (v .«has_patch») refl
-  where
-    go : (b : Bool) → v .«has_patch» ≡ b → v .«has_patch» ≡ true
-    go true h = h
-    go false h =
-        absurd (subst T d (subst (λ (b : Bool). T (cond b (patchSound (v .operators) (v .patch) (v .row) (v .plan)) (v .dirty))) h (state-fits v t .patched)))
-
 -- a block's length that 8 accepts
 pub block-small : (size : ℕ) → T (blockFits size) → size ≤ 4096
 unfolding blockFits
@@ -94,42 +75,6 @@ block-whole size t = eqb-true (size % 4) 0 (go (eqb (size % 4) 0) (and-l (eqb (s
     go : (b : Bool) → T b → b ≡ true
     go true t = refl
     go false t = absurd t
-
--- ---- patches
-
-module _ (v : Voice) (p : Patch) (c : Compiled) where
-  pub load-refused : (c .number ≡ 0 → ⊥) → record { number = c .number; at = c .at; voice = v } ≡ loaded v p c
-  unfolding loaded
-  load-refused h = simp (ne-eqb (c .number) 0 h)
-
-  pub load-accepted : c .number ≡ 0 → {w : Voice} → w ≡ withPatch v true p (c .row) (c .plan) → record { number = 0; at = c .at; voice = w } ≡ loaded v p c
-  unfolding loaded
-  load-accepted h e = simp (eq-eqb (c .number) 0 h, h, e)
-
-module _ (v : Voice) (p : Patch) (table : List ℕ) where
-  pub set-patch-9 : stateFits v ≡ false → notLoaded 9 v ≡ setPatchAnswer v p table
-  unfolding setPatchAnswer
-  set-patch-9 h = rw h refl
-
-  module _ (state : stateFits v ≡ true) where
-    pub set-patch-6 : patchFits p ≡ false → notLoaded 6 v ≡ setPatchAnswer v p table
-    unfolding setPatchAnswer
-    set-patch-6 h = rw (state, h) refl
-
-    pub set-patch-on : patchFits p ≡ true → {c : Compiled} {r : Loaded} → c ≡ compiled (v .operators) table (p .algorithm) → r ≡ loaded v p c
-        → r ≡ setPatchAnswer v p table
-    unfolding setPatchAnswer
-    set-patch-on h ec er = rw (state, h, er, ec) refl
-
-module _ (v : Voice) where
-  pub take-patch-9 : stateFits v ≡ false → prepared 9 v ≡ takePatchAnswer v
-  unfolding takePatchAnswer
-  take-patch-9 h = rw h refl
-
-  pub take-patch-on : stateFits v ≡ true → {w : Voice} {p : Patch} {plan : Plan} → p ≡ zeroPatch → plan ≡ noPlan → w ≡ withPatch v false p (0 ∷ 0 ∷ 0 ∷ 0 ∷ 0 ∷ 0 ∷ []) plan
-      → prepared 0 w ≡ takePatchAnswer v
-  unfolding takePatchAnswer withoutPatch six
-  take-patch-on h ep el ew = rw (h, ew, ep, el) refl
 
 -- ---- setting up
 

@@ -1,0 +1,2 @@
+-- laws for the functions' proofs, and for the crates above
+pub mod Blocks

@@ -1,0 +1,55 @@
+-- What a voice's block answers, refused input and buffers included, in document 01's order. Definitions only.
+use Prim.Native.Nat.{ℕ, _%_}
+use mathlib.Core.Bool.{Bool, cond, _&&_}
+use mathlib.Core.List.{List}
+use lib.Dec.{eqb, leb}
+use lib.ListN.{length}
+use lib.Ieee.{Float}
+use Rattle.numbers.specs.F32.{decimal, minusDecimal}
+use Rattle.limits.specs.Ranges.{between}
+use Rattle.voice.specs.declared.Voice.{Voice}
+use Rattle.voice.specs.Answers.{stateFits}
+use Rattle.voice_render.specs.declared.VoiceParameters.{VoiceParameters}
+use Rattle.voice_render.specs.Setup.{setUp}
+use Rattle.voice_render.specs.Block.{Sounded, sounded}
+
+-- ---- what is refused
+
+-- else 8: a multiple of 4, at most 4,096 numbers
+unfoldable pub blockFits : ℕ → Bool
+blockFits size = eqb (size % 4) 0 && leb size 4096
+
+-- else 7
+unfoldable pub parametersFit : VoiceParameters → Bool
+parametersFit p =
+    between (decimal 0 0) (decimal 127 0) (p .note)
+    && between (decimal 0 0) (decimal 1 0) (p .velocity)
+    && between (decimal 0 0) (decimal 1 0) (p .brightness)
+    && between (decimal 0 0) (decimal 1 0) (p .«envelope_control»)
+    && between (minusDecimal 4 0) (decimal 4 0) (p .«pitch_mod»)
+    && between (decimal 0 0) (decimal 1 0) (p .«amp_mod»)
+
+-- ---- the answer
+
+-- the number, the voice and the whole block after it
+pub record Answered : Type 0 where
+  pub number : ℕ
+  pub voice : Voice
+  pub block : List Float
+
+abbrev pub unsounded : ℕ → Voice → List Float → Answered
+unsounded number v block = record { number = number; voice = v; block = block }
+
+abbrev pub sounding : Sounded → Answered
+sounding s = record { number = 0; voice = s .voice; block = s .block }
+
+-- 9, 8, 7; a dirty voice's block is blank: it sets up, touches no buffer and does not record the gate
+unfoldable pub renderAnswer : List Float → List Float → List Float → Voice → VoiceParameters → List Float → Answered
+renderAnswer lut high low v p block =
+    cond (stateFits v)
+    (cond (blockFits (length block))
+    (cond (parametersFit p)
+    (cond (v .dirty) (unsounded 0 (setUp high low v) block) (sounding (sounded lut high low v p block)))
+    (unsounded 7 v block))
+    (unsounded 8 v block))
+    (unsounded 9 v block)

@@ -1,0 +1,4 @@
+-- the definitions that the contracts cite
+pub mod Setup
+pub mod Block
+pub mod Answers

@@ -1,0 +1,41 @@
+-- A voice set up, which a blank block does, after voice.rs. Definitions only.
+use mathlib.Core.Bool.{false, cond}
+use mathlib.Core.List.{List}
+use lib.Ieee.{Float}
+use Rattle.envelope.specs.declared.Envelope.{Envelope}
+use Rattle.envelope.specs.Set.{pitchSet}
+use Rattle.voice_setup.specs.declared.Setup.{Setup}
+use Rattle.voice_setup.specs.Setup.{setUpTo}
+use Rattle.voice.specs.declared.Voice.{Voice}
+
+-- the same voice, clean, with what its patch sets up
+unfoldable pub withSetup : Voice → Envelope → Setup → Voice
+withSetup v pitch s = record {
+  operators = v .operators;
+  «sample_rate» = v .«sample_rate»;
+  «one_hz» = v .«one_hz»;
+  a0 = v .a0;
+  gate = v .gate;
+  operator = v .operator;
+  «operator_envelope» = s .«operator_envelope»;
+  «pitch_envelope» = pitch;
+  «normalized_velocity» = v .«normalized_velocity»;
+  note = v .note;
+  ratios = s .ratios;
+  «level_headroom» = s .«level_headroom»;
+  «feedback_state» = v .«feedback_state»;
+  «has_patch» = v .«has_patch»;
+  patch = v .patch;
+  row = v .row;
+  plan = v .plan;
+  dirty = false;
+}
+
+-- a dirty voice with a patch is set up; one without stays as it is
+unfoldable pub setUp : List Float → List Float → Voice → Voice
+setUp high low v =
+    let p = v .patch in
+    let before : Setup = record { «operator_envelope» = v .«operator_envelope»; ratios = v .ratios; «level_headroom» = v .«level_headroom» } in
+    cond (v .«has_patch»)
+    (withSetup v (pitchSet (v .«pitch_envelope») (p .«pitch_envelope» .rate) (p .«pitch_envelope» .level)) (setUpTo high low (p .op) (v .operators) before))
+    v
