@@ -57,7 +57,7 @@ module _ (lfo : Lfo) (t : T (stateFits lfo)) where
   unfolding stateFits
   frequency-fits = and-r (le (decimal 0 0) (lfo .phase) && lt (lfo .phase) (decimal 1 0)) (fromZero (lfo .frequency)) t
 
-  phase-part : T (fits binary32 (lfo .phase)) → Part (lfo .phase)
+  pub phase-part : T (fits binary32 (lfo .phase)) → Part (lfo .phase)
   unfolding decimal
   phase-part f =
       let x = lfo .phase in
@@ -145,11 +145,12 @@ rateInRange : ℕ → Bool
 unfolding lfoFrequency lfoSteps decimal mul ofInt
 rateInRange n = positive (lfoFrequency n) && le (fin false 1 (negsuc 3)) (lfoFrequency n) && le (lfoFrequency n) (fin false 1 (pos 5))
 
-allBelow : (ℕ → Bool) → ℕ → Bool
+-- a test for every number below n
+unfoldable pub allBelow : (ℕ → Bool) → ℕ → Bool
 allBelow f zero = true
 allBelow f (suc n) = f n && allBelow f n
 
-at-each : (f : ℕ → Bool) (n : ℕ) → T (allBelow f n) → (k : ℕ) → k < n → T (f k)
+pub at-each : (f : ℕ → Bool) (n : ℕ) → T (allBelow f n) → (k : ℕ) → k < n → T (f k)
 unfolding allBelow
 at-each f zero t k h = let z : ⊥ = omega arith in absurd z
 at-each f (suc n) t k h = go (λ l. at-each f n (and-r (f n) (allBelow f n) t) k l) (eqb k n) refl
@@ -173,7 +174,7 @@ rate-in-range n h =
     (and-l a b q, and-r a b q, and-r (a && b) c r)
 
 -- finite and above 0
-positive-from-zero : (x : Float) → T (positive x) → FromZero x
+pub positive-from-zero : (x : Float) → T (positive x) → FromZero x
 positive-from-zero nan p = absurd p
 positive-from-zero (inf s) p = absurd p
 positive-from-zero (fin true m e) p = absurd p

@@ -163,7 +163,7 @@ scaled A E D h =
 both-pos : (e d : ℤ) → 0 < down e * down d
 both-pos e d = mul-le-mul (down-pos e) (down-pos d)
 
-gone : (a b : ℕ) → 0 * a * b ≡ 0
+pub gone : (a b : ℕ) → 0 * a * b ≡ 0
 gone a b = omega (arith, mul-assoc 0 a b)
 
 nothing : (d e : ℤ) → 0 * up e * down d ≡ 0
@@ -228,7 +228,7 @@ pub data AtLeastZero : Float → Type 0 where
   infinite : AtLeastZero (inf false)
   some : (x : Float) → FromZero x → AtLeastZero x
 
-plus-at-least : (x : Float) → Plus x → AtLeastZero x
+pub plus-at-least : (x : Float) → Plus x → AtLeastZero x
 plus-at-least _ p-inf = infinite
 plus-at-least _ (p-fin m e) = some _ (plus m e)
 
