@@ -2,7 +2,6 @@
 use mathlib.Core.Path.{_≡_, refl}
 use mathlib.Core.Bool.{Bool, true, false, cond}
 use Prim.Native.Nat.{ℕ, _+_, _-_, _*_}
-use native.Mathlib.Nat.{mul-assoc}
 use native.Mathlib.Omega.{arith}
 use borrow.Author.Tests.{le-ltb}
 use lib.Dec.{ltb}
@@ -10,7 +9,7 @@ use lib.IntN.{ℤ, pos}
 use lib.Ieee.{Float, fin, binary32, up, down, lt, le, add, sum, round}
 use Rattle.numbers.specs.F32.{_⊕_, _⊖_, _⊗_, decimal}
 use Rattle.numbers.proofs.Views.{on, NotAtLeast, nge-fin, not-at-least}
-use Rattle.units.proofs.Bounds.{Plus, p-inf, p-fin, round-plus}
+use Rattle.units.proofs.Bounds.{round-plus}
 use Rattle.lfo.specs.Lfo.{atMostOne, delayStepped, rampOf}
 use Rattle.lfo.proofs.Phases.{FromZero, plus, minus-zero, no-part, part-from-zero, Sum, sum-of, sum-small, parts-add, AtLeastZero, infinite, some, product-at-least, plus-at-least, gone}
 use Rattle.answered.proofs.Shares.{Share, share, no-share, share-from-zero, twice-past-half}

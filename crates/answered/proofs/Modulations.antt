@@ -9,7 +9,7 @@ use lib.Dec.{T}
 use lib.IntN.{pos}
 use lib.Ieee.{Float, lt, le}
 use lib.Ieee.Bits.{is-true}
-use lib.Ieee.Fits.{and-i, and-l, and-r}
+use lib.Ieee.Fits.{and-i}
 use Rattle.numbers.specs.F32.{_⊕_, _⊖_, _⊗_, decimal, minusDecimal, asFloat}
 use Rattle.units.proofs.Bounds.{Sized}
 use Rattle.conversions.specs.Units.{pitchModSensitivity}
@@ -22,7 +22,7 @@ use Rattle.lfo.specs.declared.Lfo.{Lfo}
 use Rattle.lfo.specs.Lfo.{freshLfo, adjusted, movedTo, valued, restarted, stepped, settled, firstOf, secondOf, rampOf, pitchModOf, ampModOf}
 use Rattle.lfo.specs.Answers.{fromZero, stateFits, stepFits, initAnswer, setAnswer, resetAnswer, stepAnswer, readAnswer, pitchModAnswer, ampModAnswer}
 use Rattle.lfo.specs.Played.{Set, Reset, Step, answerTo, played, Valid}
-use Rattle.lfo.proofs.Phases.{FromZero, plus, under-from-zero, Part, is-part}
+use Rattle.lfo.proofs.Phases.{FromZero, plus}
 use Rattle.lfo.proofs.Accepted.{phase-part}
 use Rattle.lfo.proofs.Sequences.{init-valid, played-valid}
 use Rattle.identity.specs.Identity.{readied, identityOf}

@@ -1,12 +1,12 @@
 -- What a patch's modulations set an LFO at 48,000 Hz to: its phase grows by less than 1 in 64 samples, its delay's increments are above 0, its depths
 -- are from 0 to 1, and its pitch sensitivity is at most 2. A test over each field's numbers, which antt computes. Assumes nothing.
-use mathlib.Core.Path.{_≡_, refl, sym, subst}
+use mathlib.Core.Path.{_≡_, refl}
 use mathlib.Core.Bool.{Bool, true, false, _&&_}
-use Prim.Native.Nat.{ℕ, zero, suc, _≤_, _<_}
+use Prim.Native.Nat.{ℕ, _≤_}
 use native.Mathlib.Omega.{arith}
-use borrow.Author.Tests.{eqb-true, eqb-false, leb-true}
-use lib.Dec.{T, eqb, leb}
-use lib.Ieee.{Float, nan, inf, fin, lt, le, mul, div, round, ofInt}
+use borrow.Author.Tests.{leb-true}
+use lib.Dec.{T, leb}
+use lib.Ieee.{Float, lt, le, mul, div, round, ofInt}
 use lib.Ieee.Bits.{is-true}
 use lib.Ieee.Fits.{and-l, and-r}
 use lib.Ieee.Positive.{positive}

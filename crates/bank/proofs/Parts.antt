@@ -1,14 +1,12 @@
 -- The 32 parts of a sound bank are its data, in order. Assumes nothing.
 use mathlib.Core.Path.{_≡_, refl, sym, _∙_, ap, ap₂}
-use mathlib.Core.List.{List, [], _∷_, _++_}
-use Prim.Native.Nat.{ℕ, zero, suc, _+_, _*_, _<_, _≤_}
+use mathlib.Core.List.{List, _++_}
+use Prim.Native.Nat.{ℕ, zero, suc, _+_, _*_, _≤_}
 use native.Mathlib.Nat.{suc-mul}
 use native.Mathlib.Omega.{arith}
-use borrow.Author.Tests.{eq-eqb}
-use lib.Dec.{eqb}
 use lib.ListN.{length, take, drop, length-take, length-drop}
 use lib.Seq.{take-add, drop-drop}
-use Rattle.bank.specs.Bank.{dataOf, validateOf, numberOf, slotOf, partOf, partsOf}
+use Rattle.bank.specs.Bank.{dataOf, validateOf, slotOf, partOf, partsOf}
 use Rattle.bank.proofs.Numbers.{sound-length, slot-sound}
 
 module _ (dump : List ℕ) (sound : validateOf dump ≡ 0) where

@@ -1,6 +1,6 @@
 -- A dump of 32 packed patches, in document 01's words: its frame, its data, its checksum, the number it gets and the part of a slot.
 -- Assumes nothing.
-use mathlib.Core.Bool.{Bool, true, false, cond, _&&_}
+use mathlib.Core.Bool.{Bool, true, cond, _&&_}
 use mathlib.Core.List.{List, [], _∷_, _++_}
 use Prim.Native.Nat.{ℕ, zero, suc, _+_, _-_, _*_, _%_, max}
 use lib.ListN.{length, getD, take, drop}

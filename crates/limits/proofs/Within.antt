@@ -1,14 +1,14 @@
 -- The limits of number 6, part by part: a patch fits where its operators, its pitch envelope, its modulations, its name and its single numbers
 -- do. Assumes nothing.
 use mathlib.Core.Path.{_≡_, refl, sym, _∙_, ap}
-use mathlib.Core.Bool.{Bool, true, false, _&&_, and-assoc, and-true}
+use mathlib.Core.Bool.{Bool, _&&_, and-assoc, and-true}
 use mathlib.Core.List.{List, [], _∷_, _++_, map}
 use Prim.Native.Nat.{ℕ}
 use lib.ListN.{getD}
 use lib.Dec.{eqb, leb}
 use Rattle.patch.specs.declared.Operator.{Operator}
 use Rattle.patch.specs.declared.Patch.{Patch}
-use Rattle.patch.specs.Layout.{Field, later, Place, Of, Pitch, Lfo, Letter, Algorithm, Feedback, Reset, Transpose, envelopeField, scalingField, operatorField, lfoField, fieldOf, stages, envelopeNames, scalingNames, operatorNames, lfoNames, letters, sharedNames, layout}
+use Rattle.patch.specs.Layout.{Field, later, Place, Of, envelopeField, scalingField, operatorField, fieldOf, stages, envelopeNames, scalingNames, operatorNames, lfoNames, letters, sharedNames, layout}
 use Rattle.patch.specs.Form.{envelopeNumber, scalingNumber, operatorNumber, lfoNumber, operatorAt, numberOf}
 use Rattle.patch.specs.Packed.{within, stagesFit, scalingFits, operatorFits, operatorsFit, modulationsFit, nameFits, patchFits}
 

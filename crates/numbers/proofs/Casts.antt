@@ -1,17 +1,17 @@
 -- What the casts return, by the form of the float. Assumes nothing.
 use mathlib.Core.Path.{_≡_, refl, sym, _∙_, ap, subst}
-use mathlib.Core.Bool.{Bool, true, false, not, _&&_, _||_, Bool·beq, cond}
+use mathlib.Core.Bool.{Bool, true, false, not, _&&_, _||_, Bool·beq}
 use Prim.Native.Nat.{ℕ, zero, suc, _+_, _-_, _*_, _/_, _%_, _^_, _≤_, _<_, min}
-use native.Mathlib.Nat.{mul-one, one-mul, mul-le-mul, mul-le-mul-right, mul-comm, div-le-of-le-mul, le-of-lt, lt-irrefl, lt-of-lt-of-le, div-lt-iff-lt-mul, le-div-iff-mul-le, mod-one, pow-suc, lt-of-le-of-lt, le-trans, mul-le-mul-left}
+use native.Mathlib.Nat.{mul-one, one-mul, mul-le-mul, mul-le-mul-right, mul-comm, div-le-of-le-mul, le-of-lt, lt-irrefl, lt-of-lt-of-le, div-lt-iff-lt-mul, le-div-iff-mul-le, mod-one, pow-suc}
 use native.Mathlib.Omega.{arith}
-use borrow.Author.Tests.{ltb-true, ltb-false, eqb-true, eqb-false, eq-eqb}
+use borrow.Author.Tests.{ltb-true, ltb-false, eqb-true, eq-eqb}
 use lib.Dec.{T, ltb, leb, eqb, eqb→eq, ltb→lt, lt→ltb, le→leb}
 use lib.IntN.{ℤ, pos, negsuc, negℤ}
 use lib.Pow.{pow-pos, pow-mono}
 use lib.Ieee.Fits.{up-pos, down-pos, and-l, and-r, and-i, eq→eqb, fits-widens}
-use lib.Ieee.{Float, nan, inf, fin, Format, binary32, binary64, up, down, lt, le, eq, ne, neg, fits, toUnsigned, toSigned, inUnsigned, whole, isNan}
+use lib.Ieee.{Float, nan, inf, fin, binary32, binary64, up, down, lt, le, eq, ne, neg, fits, toUnsigned, toSigned, inUnsigned, whole, isNan}
 use Rattle.numbers.specs.Extremes.{magnitude}
-use Rattle.numbers.proofs.Views.{no, on, both, AtLeast, ge-inf, ge-fin, NotAtLeast, nge-nan, nge-inf, nge-neg, nge-fin, Under, lt-inf, lt-neg, lt-fin, NotUnder, nlt-nan, nlt-inf, nlt-fin, AtLeastNeg, gen-inf, gen-fin, gen-neg, NotAtLeastNeg, ngen-nan, ngen-inf, ngen-neg, NotAboveNeg, ngt-nan, ngt-inf, ngt-neg}
+use Rattle.numbers.proofs.Views.{no, on, both, AtLeast, ge-inf, ge-fin, NotAtLeast, nge-nan, nge-inf, nge-neg, nge-fin, Under, lt-inf, lt-neg, lt-fin, NotUnder, nlt-nan, nlt-inf, nlt-fin, AtLeastNeg, gen-inf, gen-fin, gen-neg, NotAtLeastNeg, ngen-neg, NotAboveNeg, ngt-nan, ngt-inf, ngt-neg}
 
 -- an f32 of 2 ^ 23 or more has no fraction
 no-fraction : (m k : ℕ) → m < 2 ^ 24 → 2 ^ 23 * 2 ^ suc k ≤ m * 1 → ⊥

@@ -1,14 +1,14 @@
 -- The 32 bits of a signed number, and the signed number of 32 bits. Assumes nothing.
 use mathlib.Core.Path.{_≡_, refl, sym, _∙_, ap, subst}
-use mathlib.Core.Bool.{Bool, true, false, cond}
-use Prim.Native.Nat.{ℕ, zero, suc, _+_, _-_, _^_, _≤_, _<_}
+use mathlib.Core.Bool.{true, false}
+use Prim.Native.Nat.{ℕ, zero, suc, _-_, _^_, _≤_, _<_}
 use native.Mathlib.Omega.{arith}
-use borrow.Author.Tests.{le-ltb, le-leb, eqb-false, eq-eqb, ne-eqb}
-use lib.Dec.{T, leb, eqb}
+use borrow.Author.Tests.{le-ltb, le-leb}
+use lib.Dec.{T}
 use lib.IntN.{ℤ, pos, negsuc, natAbs, _-ℤ_}
 use lib.Signed.{mag, leZ, nonNeg}
 use mir.Syntax.{w32}
-use mir.Val.{Fits, SFits, toZ, ofZ}
+use mir.Val.{Fits, toZ, ofZ}
 use mir.ValLaws.{toZ-ofZ, toZ-pos}
 
 no {ℓ} : {X : Type ℓ} → false ≡ true → X

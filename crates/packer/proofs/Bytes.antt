@@ -11,7 +11,7 @@ use lib.ListN.{getD, replicate}
 use lib.Seq.{paste}
 use Rattle.patch.specs.declared.Operator.{Operator}
 use Rattle.patch.specs.declared.Patch.{Patch}
-use Rattle.patch.specs.Layout.{Field, Place, Of, later, envelopeField, scalingField, operatorField, lfoField, fieldOf, envelopeNames, scalingNames, operatorNames, lfoNames, letters, sharedNames, layout}
+use Rattle.patch.specs.Layout.{Place, Of, later, envelopeField, scalingField, operatorField, lfoField, fieldOf, envelopeNames, scalingNames, operatorNames, lfoNames, letters, sharedNames, layout}
 use Rattle.patch.specs.Form.{envelopeNumber, scalingNumber, operatorNumber, lfoNumber, operatorAt, numberOf}
 use Rattle.patch.specs.Packed.{within, operatorFits, patchFits}
 use Rattle.packer.specs.Packing.{bytesOf, operatorBytes, sharedBytes, packed}

@@ -1,20 +1,20 @@
 -- There and back: unpacking what was packed gives the patch, and packing what was unpacked gives the bytes
 -- exactly if they were clean. Assumes nothing.
 use mathlib.Core.Path.{_≡_, refl, sym, _∙_, ap, ap₂}
-use mathlib.Core.Bool.{true, _&&_}
-use mathlib.Core.List.{List, [], _∷_, _++_, map}
-use Prim.Native.Nat.{ℕ, zero, suc, _+_, _*_, _/_, _%_, _^_, _<_, _≤_, min}
+use mathlib.Core.Bool.{true}
+use mathlib.Core.List.{List, [], _∷_}
+use Prim.Native.Nat.{ℕ, zero, suc, _/_, _%_, _^_, _<_, _≤_}
 use native.Mathlib.Nat.{zero-add}
 use native.Mathlib.Omega.{arith}
 use borrow.Author.Tests.{eqb-true, le-ltb, ltb-true}
 use lib.Dec.{eqb, ltb}
-use lib.ListN.{length, getD, take, length-take}
+use lib.ListN.{length, getD, take}
 use lib.Seq.{ext-getD, getD-take, length-take-le}
 use Rattle.patch.specs.declared.Envelope.{Envelope}
 use Rattle.patch.specs.declared.Operator.{Operator}
 use Rattle.packer.specs.declared.Packed.{Packed}
 use Rattle.patch.specs.declared.Patch.{Patch}
-use Rattle.patch.specs.Layout.{Field, Place, Of, later, envelopeField, scalingField, operatorField, lfoField, fieldOf, envelopeNames, scalingNames, operatorNames, lfoNames, letters, sharedNames, layout}
+use Rattle.patch.specs.Layout.{Place, later, envelopeField, scalingField, operatorField, lfoField, fieldOf, envelopeNames, scalingNames, operatorNames, lfoNames, letters, sharedNames, layout}
 use Rattle.patch.specs.Form.{envelopeWith, scalingWith, operatorWith, modulationsWith, nameWith, patchWith, envelopeNumber, scalingNumber, operatorNumber, lfoNumber, operatorAt, noOperator, numberOf, ShapedEnvelope, Shaped}
 use Rattle.patch.specs.Packed.{bitsIn, readIn, within, unpacked, patchFits, unpackOf}
 use Rattle.packer.specs.Packing.{byteOf, packed, packOf, Clean}

@@ -1,11 +1,10 @@
 -- Number 9, test by test, and what an accepted state has. Assumes nothing.
-use mathlib.Core.Path.{_≡_, refl, sym, subst, _∙_, ap}
+use mathlib.Core.Path.{_≡_, refl, subst}
 use mathlib.Core.Bool.{Bool, true, false, cond, _&&_}
 use mathlib.Core.List.{List}
 use Prim.Native.Nat.{ℕ, _≤_, _<_}
-use native.Mathlib.Omega.{arith}
 use borrow.Author.Tests.{le-leb, lt-leb, eqb-true}
-use lib.Dec.{T, eqb, leb, leb→le}
+use lib.Dec.{T, eqb, leb→le}
 use lib.Ieee.Fits.{and-l, and-r}
 use Rattle.patch.specs.declared.Patch.{Patch}
 use Rattle.patch.specs.Packed.{patchFits}

@@ -11,7 +11,6 @@ use Rattle.patch.specs.Form.{operatorAt}
 use Rattle.voice_setup.specs.declared.Tuned.{Tuned}
 use Rattle.voice_setup.specs.Setup.{envelopeAt}
 use Rattle.voice_levels.specs.declared.Scene.{Scene}
-use Rattle.voice_levels.specs.Levels.{Leveled}
 use Rattle.voice_levels.specs.declared.Levels.{Levels}
 use Rattle.voice_levels.specs.Levels.{amplitudeOf, leveled, putAt, noTuned, leveledTo, raised, raisedTo, soundedTo}
 

@@ -6,7 +6,7 @@ use Prim.Native.Nat.{ℕ, _/_, _%_, _≤_}
 use native.Mathlib.Omega.{arith}
 use borrow.Author.Tests.{eqb-true}
 use lib.Dec.{T, eqb, leb, leb→le}
-use lib.ListN.{length, getD}
+use lib.ListN.{length}
 use lib.Ieee.{Float}
 use lib.Ieee.Fits.{and-l, and-r}
 use Rattle.numbers.specs.F32.{_⊕_}
@@ -34,7 +34,7 @@ use Rattle.voice_render.specs.declared.VoiceParameters.{VoiceParameters}
 use Rattle.voice_render.specs.declared.Struck.{Struck}
 use Rattle.voice_render.specs.declared.Begun.{Begun}
 use Rattle.voice_render.specs.Setup.{withSetup, setUp}
-use Rattle.voice_render.specs.Block.{noteOn, struck, begun, restartedAt, allRestarted, entering, levelsFor, after, Sounded, played, sounded}
+use Rattle.voice_render.specs.Block.{noteOn, struck, begun, restartedAt, allRestarted, entering, levelsFor, after, played, sounded}
 use Rattle.voice_render.specs.Answers.{blockFits, parametersFit, Answered, unsounded, sounding, renderAnswer}
 
 -- ---- what is accepted

@@ -10,8 +10,6 @@ use Rattle.conversions.specs.Units.{normalizedVelocity}
 use Rattle.operator.specs.declared.Operator.{Operator}
 use Rattle.block.specs.declared.Operators.{Operators}
 use Rattle.block.specs.Calls.{noOperator, Ran, ran}
-use Rattle.voice_levels.specs.declared.Timing.{Timing}
-use Rattle.voice_levels.specs.declared.Scene.{Scene}
 use Rattle.voice_levels.specs.declared.Levels.{Levels}
 use Rattle.voice_levels.specs.Levels.{timingFor, followed, noteFrequency, leveledTo}
 use Rattle.voice.specs.declared.Voice.{Voice}

@@ -1,5 +1,5 @@
 -- `numbers::f32_as_i32` meets its contract. Assumes nothing.
-use mathlib.Core.Path.{_≡_, refl, sym, _∙_, ap, subst}
+use mathlib.Core.Path.{_≡_, sym, _∙_, ap, subst}
 use lib.IntN.{ℤ}
 use lib.Ieee.{ofBits, neg, toSigned}
 use lib.Ieee.Casts.{toSigned-in}

@@ -1,5 +1,5 @@
 -- `numbers::f32_as_u32` meets its contract. Assumes nothing.
-use mathlib.Core.Path.{_≡_, refl, sym, _∙_, ap, subst}
+use mathlib.Core.Path.{_≡_, sym, _∙_, subst}
 use lib.Dec.{T}
 use lib.Ieee.{ofBits, neg, toUnsigned}
 use lib.Ieee.Casts.{toUnsigned-lt}

@@ -1,7 +1,6 @@
 -- `voice_setup::operator_setup` meets its contract.
 -- Assumes nothing.
 use borrow.Author.Needs.{needs}
-use native.Mathlib.Omega.{arith}
 use Rattle.conversions.proofs.Conversions.{level-at-most-127}
 use Rattle.voice_setup.proofs.Operators.{limits, set-up}
 use Rattle.voice_setup.proofs.operator_setup.Statement.{statement}
