@@ -14,7 +14,7 @@ use Rattle.numbers.specs.Extremes.{magnitude}
 use Rattle.numbers.proofs.Views.{no, on, both, AtLeast, ge-inf, ge-fin, NotAtLeast, nge-nan, nge-inf, nge-neg, nge-fin, Under, lt-inf, lt-neg, lt-fin, NotUnder, nlt-nan, nlt-inf, nlt-fin, AtLeastNeg, gen-inf, gen-fin, gen-neg, NotAtLeastNeg, ngen-neg, NotAboveNeg, ngt-nan, ngt-inf, ngt-neg}
 
 -- an f32 of 2 ^ 23 or more has no fraction
-no-fraction : (m k : ℕ) → m < 2 ^ 24 → 2 ^ 23 * 2 ^ suc k ≤ m * 1 → ⊥
+pub no-fraction : (m k : ℕ) → m < 2 ^ 24 → 2 ^ 23 * 2 ^ suc k ≤ m * 1 → ⊥
 no-fraction m k h g =
     let p : 2 ^ suc k ≡ 2 ^ k * 2 = pow-suc 2 k in
     let q = pow-pos k in

@@ -24,11 +24,11 @@ lift = fin false 1 (pos 5)
 abbrev pub scale : Float
 scale = fin false 1 (pos 26)
 
-abbrev low : Float
-low = fin false 1 (pos 0)
+abbrev pub lowest : Float
+lowest = fin false 1 (pos 0)
 
-abbrev high : Float
-high = fin false 31 (pos 1)
+abbrev pub highest : Float
+highest = fin false 31 (pos 1)
 
 same-scale : T (le scale scale)
 unfolding le lt eq
@@ -36,8 +36,8 @@ same-scale = tt
 
 -- ---- the sum
 
-Within : Float → Type 0
-Within l = T (le low l) × T (le l high)
+unfoldable pub Within : Float → Type 0
+Within l = T (le lowest l) × T (le l highest)
 
 rounded-within : (a c : ℕ) → 0 < c → c ≤ a → a ≤ 62 * c → Within (round binary32 false a c)
 unfolding Within round
@@ -73,14 +73,14 @@ fewer : (x : Float) → AtLeast 26 x → AtLeast 23 x
 fewer _ ge-inf = ge-inf
 fewer _ (ge-fin m e g) = ge-fin m e (omega arith)
 
-within-whole : (l : Float) → Within l → AtLeast 23 (l ⊗ scale)
+pub within-whole : (l : Float) → Within l → AtLeast 23 (l ⊗ scale)
 unfolding Within mul round
 within-whole l (h, k) =
-    fewer (l ⊗ scale) (at-least 26 (l ⊗ scale) (is-true (le (fin false 1 (pos 26)) (l ⊗ scale)) (mul-mono binary32 low l scale scale tt (between low l high tt tt h k) tt tt h same-scale)))
+    fewer (l ⊗ scale) (at-least 26 (l ⊗ scale) (is-true (le (fin false 1 (pos 26)) (l ⊗ scale)) (mul-mono binary32 lowest l scale scale tt (between lowest l highest tt tt h k) tt tt h same-scale)))
 
-within-below : (l : Float) → Within l → Under 32 (l ⊗ scale)
+pub within-below : (l : Float) → Within l → Under 32 (l ⊗ scale)
 unfolding Within mul round
-within-below l (h, k) = at-most (l ⊗ scale) (is-true (le (l ⊗ scale) (fin false 31 (pos 27))) (mul-mono binary32 l high scale scale (between low l high tt tt h k) tt tt tt k same-scale))
+within-below l (h, k) = at-most (l ⊗ scale) (is-true (le (l ⊗ scale) (fin false 31 (pos 27))) (mul-mono binary32 l highest scale scale (between lowest l highest tt tt h k) tt tt tt k same-scale))
 
 -- from 64 on the cast gives the largest number
 all : (x : Float) → AtLeast 32 x → toUnsigned 32 x ≡ 2 ^ 32 - 1
@@ -99,13 +99,7 @@ far-all l h = go l h (at-least 6 l h)
 
 -- ---- by the code's test
 
-near-within : (pm : Float) → (le (fin true 31 (pos 0)) pm && le pm (fin false 15 (pos 1))) ≡ true → Within (pm ⊕ lift)
+pub near-within : (pm : Float) → (le (fin true 31 (pos 0)) pm && le pm (fin false 15 (pos 1))) ≡ true → Within (pm ⊕ lift)
 near-within pm h =
     let p = both (le (fin true 31 (pos 0)) pm) (le pm (fin false 15 (pos 1))) h in
     lifted-within pm (p .0) (p .1)
-
-pub near-whole : (pm : Float) → (le (fin true 31 (pos 0)) pm && le pm (fin false 15 (pos 1))) ≡ true → AtLeast 23 ((pm ⊕ lift) ⊗ scale)
-near-whole pm h = within-whole (pm ⊕ lift) (near-within pm h)
-
-pub near-below : (pm : Float) → (le (fin true 31 (pos 0)) pm && le pm (fin false 15 (pos 1))) ≡ true → Under 32 ((pm ⊕ lift) ⊗ scale)
-near-below pm h = within-below (pm ⊕ lift) (near-within pm h)

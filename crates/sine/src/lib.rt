@@ -7,6 +7,7 @@ ghost use Prim.Native.Nat.{_<_};
 ghost use lib.Dec.{T};
 ghost use lib.ListN.{getD};
 ghost use lib.Ieee.{nan};
+ghost use Rattle.numbers.specs.Words.{product32};
 ghost use Rattle.sine.specs.Table.{lutSine};
 ghost use Rattle.sine.specs.Pairs.{sinePairs};
 ghost use Rattle.sine.specs.Sine.{sineOf, stepsOf, modulated, phaseLine, sinePm};
@@ -48,19 +49,29 @@ pub fn sine_pm(pairs: &[f32; 1024], phase: u32, pm: f32) -> f32
 fn modulate(phase: u32, pm: f32) -> u32
     ensures { λ r. ⌜ r ≡ modulated phase pm ⌝ }
 {
-    numbers::wrapping_add_u32(phase, steps(pm) << 6)
+    numbers::wrapping_add_u32(phase, turned(pm))
 }
 
-// A modulation in steps. From -31 to 30 turns they are whole already and below 2^32: this is the innermost
-// loop's path, with a test that need not wait for the sum, and one conversion that multiplies as well.
+// A modulation in the phase's own steps, of which 64 make one of `steps`, wrapped. From -31 to 30 turns they are whole already: this
+// is the innermost loop's path, with a test that need not wait for the sum, and one conversion that multiplies as well. The cast is
+// to i64, which every processor has as one instruction.
+fn turned(pm: f32) -> u32
+    ensures { λ r. ⌜ r ≡ product32 (stepsOf pm) 64 ⌝ }
+{
+    let lifted = pm + 32.0;
+    if (pm >= -31.0) & (pm <= 30.0) {
+        let turns = ((lifted * 4294967296.0) as f64) as i64;
+        return ((turns as u64) % 4294967296) as u32;
+    }
+    steps(pm) << 6
+}
+
+// A modulation in steps of a 2^26th, as Rust casts it.
 fn steps(pm: f32) -> u32
     ensures { λ r. ⌜ r ≡ stepsOf pm ⌝ }
 {
     let scale = 4294967296.0 / 64.0;
     let lifted = pm + 32.0;
-    if (pm >= -31.0) & (pm <= 30.0) {
-        return ((lifted * scale) as f64) as u32;
-    }
     if lifted >= 64.0 {
         return u32::MAX;
     }
@@ -68,8 +79,8 @@ fn steps(pm: f32) -> u32
 }
 
 // The straight line from the entry at a phase towards the next. The phase's lowest 23 bits over 2^23 are an
-// f32, with no rounding: the same as Rust's quotient by 2^32. They are what the highest nine leave of the phase;
-// taken by their own mask, those nine would be masked too, and the load would wait for it.
+// f32, with no rounding: the same as Rust's quotient by 2^32. They are what the highest nine leave of the phase: by a
+// mask of their own the compiler masks the nine as well, and the load waits for it.
 fn line(pairs: &[f32; 1024], phase: u32) -> f32
     ensures { λ r. ⌜ r ≡ phaseLine (now (pairs .entry)) phase ⌝ }
 {
