@@ -2,7 +2,7 @@
 -- Assumes nothing.
 use mathlib.Core.Path.{_≡_, refl}
 use mathlib.Core.Bool.{Bool, true, false, cond, _&&_}
-use mathlib.Core.List.{List, [], _∷_}
+use mathlib.Core.List.{List}
 use Prim.Native.Nat.{ℕ, zero, suc}
 use borrow.Author.Tests.{eqb-true, eqb-false, eq-eqb}
 use lib.Dec.{T, eqb}
@@ -14,14 +14,13 @@ use Rattle.sine.specs.Table.{lutSine}
 use Rattle.sine.specs.Pairs.{sinePairs}
 use Rattle.units.specs.Tables.{lutPitchRatioHigh, lutPitchRatioLow}
 use Rattle.patch.specs.declared.Patch.{Patch}
-use Rattle.patch.specs.declared.ModulationParameters.{ModulationParameters}
 use Rattle.limits.specs.Ranges.{between, sampleRateFits}
 use Rattle.algorithms.specs.Plan.{counted}
 use Rattle.opcodes.specs.Opcodes.{sixOperators}
 use Rattle.lfo.specs.declared.Lfo.{Lfo}
 use Rattle.lfo.specs.Answers as lfo
-use Rattle.lfo.specs.Played.{Set, answerTo, played, Valid}
-use Rattle.lfo.proofs.Sequences.{init-valid, played-valid}
+use Rattle.lfo.specs.Played.{Valid}
+use Rattle.lfo.proofs.Sequences.{init-valid}
 use Rattle.voice.specs.declared.Voice.{Voice}
 use Rattle.voice.specs.Answers.{stateFits, initAnswer, setPatchAnswer}
 use Rattle.voice_render.specs.declared.VoiceParameters.{VoiceParameters}
@@ -33,7 +32,7 @@ use Rattle.identity.specs.declared.Ready.{Ready}
 use Rattle.identity.specs.declared.Playing.{Playing}
 use Rattle.identity.specs.Identity.{readied, parametersOf, silence, setUpFor, blockPlayed, blocksPlayed, identityOf}
 use Rattle.answered.specs.Answered.{readyAnswered, setUpAnswered, blockAnswered, blocksAnswered, noteAnswered, notesAnswered, identityAnswered}
-use Rattle.answered.proofs.Modulations.{Tame, ready-tame, step-tame, pitch-within, amp-within}
+use Rattle.answered.proofs.Modulations.{Tame, rate-accepted, set-keeps, ready-tame, step-tame, pitch-within, amp-within}
 
 together : {a b : Bool} → a ≡ true → b ≡ true → (a && b) ≡ true
 together e f = rw (e, f) refl
@@ -50,26 +49,14 @@ PitchFits x = between (minusDecimal 4 0) (decimal 4 0) x ≡ true
 abbrev UnitFits : Float → Type 0
 UnitFits x = between (decimal 0 0) (decimal 1 0) x ≡ true
 
--- a blank block's modulations, the velocity, and brightness and envelope control
-fixed-fit : PitchFits (decimal 0 0) × UnitFits (decimal 0 0) × UnitFits (decimal 8 1) × UnitFits (decimal 5 1)
-unfolding decimal minusDecimal le lt
-fixed-fit = (refl, refl, refl, refl)
-
-keys-fit : KeyFits (decimal 36 0) × KeyFits (decimal 60 0) × KeyFits (decimal 84 0)
-unfolding decimal le lt
-keys-fit = (refl, refl, refl)
-
 silence-fits : blockFits (length silence) ≡ true
 unfolding blockFits
 silence-fits = refl
 
 parameters-fit : (note pitch amp : Float) (gate : Bool) → KeyFits note → PitchFits pitch → UnitFits amp
     → parametersFit (parametersOf note gate pitch amp) ≡ true
-unfolding parametersFit parametersOf
-parameters-fit note pitch amp gate k p a =
-    let velocity = fixed-fit .2 in
-    let half = fixed-fit .3 in
-    together (together (together (together (together k velocity) half) half) p) a
+unfolding parametersFit parametersOf decimal le lt
+parameters-fit note pitch amp gate k p a = together (together (together (together (together k refl) refl) refl) p) a
 
 -- neither 9 nor 8 nor 7
 render-answered : (pairs high low : List Float) (v : Voice) (p : VoiceParameters) (block : List Float) → T (stateFits v) → blockFits (length block) ≡ true
@@ -90,10 +77,8 @@ pub record Playable (s : Playing) : Type 0 where
 
 module _ (pairs high low : List Float) (note : Float) (key : KeyFits note) where
   set-up-answered : (v : Voice) → T (stateFits v) → setUpAnswered pairs high low v note ≡ true
-  unfolding setUpAnswered
-  set-up-answered v t =
-      let fit = parameters-fit note (decimal 0 0) (decimal 0 0) false key (fixed-fit .0) (fixed-fit .1) in
-      eq-eqb _ 0 (render-answered pairs high low v _ silence t silence-fits fit)
+  unfolding setUpAnswered decimal minusDecimal le lt
+  set-up-answered v t = eq-eqb _ 0 (render-answered pairs high low v _ silence t silence-fits (parameters-fit note _ _ false key refl refl))
 
   set-up-keeps : (v : Voice) → T (stateFits v) → T (stateFits (setUpFor pairs high low v note))
   unfolding setUpFor
@@ -141,18 +126,14 @@ six-counted : T (counted 6)
 unfolding counted
 six-counted = tt
 
-rate-fits : T (sampleRateFits (decimal 48000 0))
-unfolding sampleRateFits decimal le lt
-rate-fits = tt
-
 ready-fits : (p : Patch) → T (stateFits (readied p .voice))
 unfolding readied
-ready-fits p = set-patch-keeps _ (init-fits 6 (decimal 48000 0) six-counted rate-fits) p sixOperators .0
+ready-fits p = set-patch-keeps _ (init-fits 6 (decimal 48000 0) six-counted rate-accepted) p sixOperators .0
 
 -- the notes of every patch that a voice and an LFO take
 pub notes-answered : (p : Patch) → readied p .number ≡ 0 → notesAnswered lutSine sinePairs lutPitchRatioHigh lutPitchRatioLow (readied p) ≡ true
-unfolding notesAnswered
-notes-answered p e = together (together (note _ (keys-fit .0) _) (note _ (keys-fit .1) _)) (note _ (keys-fit .2) _)
+unfolding notesAnswered decimal le lt
+notes-answered p e = together (together (note _ refl _) (note _ refl _)) (note _ refl _)
   where
     note : (n : Float) → KeyFits n → (hash : ℕ) → noteAnswered lutSine sinePairs lutPitchRatioHigh lutPitchRatioLow (readied p) n hash ≡ true
     note n k hash = note-answered sinePairs lutPitchRatioHigh lutPitchRatioLow n k (readied p) hash (ready-fits p) (ready-tame p e)
@@ -169,13 +150,9 @@ both-zero a b e = go (eqb a 0) refl e
 
 inits-answered : (initAnswer 6 (decimal 48000 0) .number ≡ 0) × (lfo.initAnswer (decimal 48000 0) .number ≡ 0)
 unfolding initAnswer lfo.initAnswer
-inits-answered = rw (is-true (counted 6) six-counted, is-true (sampleRateFits (decimal 48000 0)) rate-fits) (refl, refl)
+inits-answered = rw (is-true (counted 6) six-counted, is-true (sampleRateFits (decimal 48000 0)) rate-accepted) (refl, refl)
 
 -- an LFO that was set, taken or refused, can be reset
-set-valid : (l : Lfo) (m : ModulationParameters) → Valid l → Valid (lfo.setAnswer l m .lfo)
-unfolding played answerTo
-set-valid l m v = played-valid lutSine (Set m ∷ []) l 0 v
-
 reset-answered : (l : Lfo) → Valid l → lfo.resetAnswer l .number ≡ 0
 unfolding lfo.resetAnswer
 reset-answered l v = rw (is-true (lfo.stateFits l) (v .accepted)) refl
@@ -186,7 +163,7 @@ ready-answered p e =
     let v = setPatchAnswer (initAnswer 6 (decimal 48000 0) .voice) p sixOperators in
     let l = lfo.setAnswer (lfo.initAnswer (decimal 48000 0) .lfo) (p .modulations) in
     let set = both-zero (v .number) (l .number) e in
-    let reset = reset-answered (l .lfo) (set-valid _ (p .modulations) (init-valid (decimal 48000 0) rate-fits)) in
+    let reset = reset-answered (l .lfo) (set-keeps (p .modulations) _ (init-valid (decimal 48000 0) rate-accepted)) in
     together (together (together (together (eq-eqb _ 0 (inits-answered .0)) (eq-eqb _ 0 (set .0))) (eq-eqb _ 0 (inits-answered .1))) (eq-eqb _ 0 (set .1))) (eq-eqb _ 0 reset)
 
 -- a patch that has an identifier has it from answered calls alone

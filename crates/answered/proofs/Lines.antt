@@ -9,15 +9,15 @@ use native.Mathlib.Omega.{arith}
 use lib.Dec.{T, leb, leb→le}
 use lib.IntN.{ℤ, pos}
 use lib.ListN.{length, getD}
-use lib.Ieee.{Float, nan, inf, fin, binary32, up, down, unlike, lt, le, eq, neg, add, sub, mul, sum, round}
+use lib.Ieee.{Float, nan, inf, fin, binary32, up, down, unlike, le, neg, add, sub, mul, sum, round}
 use lib.Ieee.Bits.{is-true}
 use lib.Ieee.Fits.{down-pos, and-l, and-r}
 use lib.Ieee.Order.{round-mono}
 use Rattle.numbers.specs.F32.{_⊕_, _⊖_, _⊗_, decimal, minusDecimal}
-use Rattle.numbers.proofs.Views.{no, on, or-le}
-use Rattle.units.proofs.Bounds.{Plus, p-inf, p-fin, Upto, upto, round-plus, round-neg}
+use Rattle.numbers.proofs.Views.{no, on}
+use Rattle.units.proofs.Bounds.{Upto, upto, round-plus, round-neg}
 use Rattle.sine.specs.Table.{lutSine}
-use Rattle.answered.proofs.Shares.{Small, sum-small, Share, share, no-share}
+use Rattle.answered.proofs.Shares.{Held, held, upto-at, rounded-upto, signed, sum-bound, Share, share, no-share}
 
 -- ---- the test
 
@@ -66,11 +66,6 @@ data Along (t : Bool) (J I : ℕ) : Float → Type 0 where
   along : (m : ℕ) (e : ℤ) → m * up e * I ≤ J * down e → Along t J I (fin t m e)
   still : (s : Bool) (m : ℕ) (e : ℤ) → m * up e ≡ 0 → Along t J I (fin s m e)
 
-upto-at : (n : ℕ) (d : ℤ) (x : Float) → Plus x → le x (fin false n d) ≡ true → Upto (n * up d) (down d) x
-unfolding le lt eq
-upto-at n d _ p-inf h = no h
-upto-at n d _ (p-fin m e) h = upto m e (or-le (m * up e * down d) (n * up d * down e) true h)
-
 along-plus : (J I : ℕ) (x : Float) → Upto J I x → Along false J I x
 along-plus J I _ (upto m e h) = along m e h
 
@@ -78,24 +73,15 @@ along-minus : (J I : ℕ) (x : Float) → Upto J I x → Along true J I (neg x)
 unfolding neg
 along-minus J I _ (upto m e h) = along m e h
 
-signed : (t : Bool) (J I n d : ℕ) → Upto J I (round binary32 false n d) → Along t J I (round binary32 t n d)
-signed false J I n d u = along-plus J I (round binary32 false n d) u
-signed true J I n d u = rw (round-neg n d) (along-minus J I (round binary32 false n d) u)
+along-signed : (t : Bool) (J I n d : ℕ) → Upto J I (round binary32 false n d) → Along t J I (round binary32 t n d)
+along-signed false J I n d u = along-plus J I (round binary32 false n d) u
+along-signed true J I n d u = rw (round-neg n d) (along-minus J I (round binary32 false n d) u)
 
-still-plus : (t : Bool) (J I : ℕ) (x : Float) → Upto 0 1 x → Along t J I x
-still-plus t J I _ (upto m e h) = still false m e (omega arith)
-
-still-minus : (t : Bool) (J I : ℕ) (x : Float) → Upto 0 1 x → Along t J I (neg x)
-unfolding neg
-still-minus t J I _ (upto m e h) = still true m e (omega arith)
-
-upto-none : (n d : ℕ) → n ≡ 0 → 0 < d → Upto 0 1 (round binary32 false n d)
-unfolding round
-upto-none n d z p = upto-at 0 (pos 0) (round binary32 false n d) (round-plus n d) (is-true _ (round-mono binary32 n d 0 1 p (omega arith) (omega arith)))
+still-held : (t : Bool) (J I : ℕ) (x : Float) → Held 0 1 x → Along t J I x
+still-held t J I _ (held s m e h) = still s m e (omega arith)
 
 nothing : (t s : Bool) (J I n d : ℕ) → n ≡ 0 → 0 < d → Along t J I (round binary32 s n d)
-nothing t false J I n d z p = still-plus t J I (round binary32 false n d) (upto-none n d z p)
-nothing t true J I n d z p = rw (round-neg n d) (still-minus t J I (round binary32 false n d) (upto-none n d z p))
+nothing t s J I n d z p = still-held t J I (round binary32 s n d) (signed 0 1 n d (rounded-upto 0 (pos 0) n d (unfold round in refl) p (omega arith)) s)
 
 -- W / D times K / G, at most 1, is at most W / D
 shrunk : (W D K G : ℕ) → K ≤ G → W * K * D ≤ W * (D * G)
@@ -112,7 +98,7 @@ part-along t n d k g j i h v =
     let D = down d * down g in
     let p : 0 < D = mul-le-mul (down-pos d) (down-pos g) in
     let l : T (le (round binary32 false N D) (round binary32 false (n * up d) (down d))) = round-mono binary32 N D (n * up d) (down d) p (down-pos d) (shrunk (n * up d) (down d) (k * up g) (down g) h) in
-    signed t (j * up i) (down i) N D (upto-at j i (round binary32 false N D) (round-plus N D) (is-true _ (subst (λ (x : Float). T (le (round binary32 false N D) x)) v l)))
+    along-signed t (j * up i) (down i) N D (upto-at j i (round binary32 false N D) (round-plus N D) (is-true _ (subst (λ (x : Float). T (le (round binary32 false N D) x)) v l)))
 
 way-part : (t : Bool) (n : ℕ) (d : ℤ) (f : Float) → Share f → (j : ℕ) (i : ℤ) → round binary32 false (n * up d) (down d) ≡ fin false j i
     → Along t (j * up i) (down i) (fin t n d ⊗ f)
@@ -144,18 +130,18 @@ own-room J I P Q p h k =
     le-of-mul-le-mul-right (omega (arith, a, b, k)) p
 
 added-small : (s : Bool) (m : ℕ) (e : ℤ) (t : Bool) (J I : ℕ) (q : Float) → Along t J I q → 0 < I → m * up e ≤ down e → J ≤ I
-    → (s ≡ t → m * up e * I + J * down e ≤ down e * I) → Small 1 (fin s m e ⊕ q)
+    → (s ≡ t → m * up e * I + J * down e ≤ down e * I) → Held 1 1 (fin s m e ⊕ q)
 unfolding add
 added-small s m e t J I _ (along n d h) p a b c =
     let x : m * up e * down d ≤ down e * down d = mul-le-mul-right (down d) a in
     let y : n * up d * down e ≤ down d * down e = mul-le-mul-right (down e) (own-room J I (n * up d) (down d) p b h) in
     let z : down d * down e ≡ down e * down d = mul-comm (down d) (down e) in
-    sum-small s (m * up e * down d) t (n * up d * down e) (down e * down d) (mul-le-mul (down-pos e) (down-pos d)) x (omega (arith, y, z))
+    sum-bound s (m * up e * down d) t (n * up d * down e) (down e * down d) (mul-le-mul (down-pos e) (down-pos d)) x (omega (arith, y, z))
     (λ r. both-room (m * up e) (down e) J I (n * up d) (down d) p (c r) h)
 added-small s m e t J I _ (still u n d h) p a b c =
     let x : m * up e * down d ≤ down e * down d = mul-le-mul-right (down d) a in
     let y : n * up d * down e ≡ 0 = ap (λ (k : ℕ). k * down e) h ∙ zeros (down e) in
-    sum-small s (m * up e * down d) u (n * up d * down e) (down e * down d) (mul-le-mul (down-pos e) (down-pos d)) x (omega (arith, y)) (λ r. omega (arith, x, y))
+    sum-bound s (m * up e * down d) u (n * up d * down e) (down e * down d) (mul-le-mul (down-pos e) (down-pos d)) x (omega (arith, y)) (λ r. omega (arith, x, y))
   where
     zeros : (k : ℕ) → 0 * k ≡ 0
     zeros k = omega arith
@@ -166,7 +152,7 @@ or-room false false a b h e = leb→le a b h
 or-room true false a b h e = on e
 or-room false true a b h e = no e
 
-by-room : (a : Float) (t : Bool) (n : ℕ) (d : ℤ) (f v : Float) → Share f → round binary32 false (n * up d) (down d) ≡ v → T (room a t v) → Small 1 (a ⊕ fin t n d ⊗ f)
+by-room : (a : Float) (t : Bool) (n : ℕ) (d : ℤ) (f v : Float) → Share f → round binary32 false (n * up d) (down d) ≡ v → T (room a t v) → Held 1 1 (a ⊕ fin t n d ⊗ f)
 unfolding room
 by-room nan t n d f v s e r = absurd r
 by-room (inf u) t n d f v s e r = absurd r
@@ -182,12 +168,12 @@ by-room (fin u m k) t n d f (fin false j i) s e r =
     (leb→le (m * up k) (down k) (and-l a b l)) (leb→le (j * up i) (down i) (and-r a b l))
     (or-room u t (m * up k * down i + j * up i * down k) (down k * down i) (and-r (a && b) c r))
 
-line-small : (a w f : Float) → Share f → T (stays a w) → Small 1 (a ⊕ w ⊗ f)
+line-small : (a w f : Float) → Share f → T (stays a w) → Held 1 1 (a ⊕ w ⊗ f)
 unfolding stays
 line-small a (fin t n d) f s r = by-room a t n d f (round binary32 false (n * up d) (down d)) s refl r
 line-small a nan f s r = absurd r
 line-small a (inf t) f s r = absurd r
 
-pub sine-line : (k : ℕ) (f : Float) → k < 512 → Share f → Small 1 (getD lutSine k nan ⊕ (getD lutSine (k + 1) nan ⊖ getD lutSine k nan) ⊗ f)
+pub sine-line : (k : ℕ) (f : Float) → k < 512 → Share f → Held 1 1 (getD lutSine k nan ⊕ (getD lutSine (k + 1) nan ⊖ getD lutSine k nan) ⊗ f)
 unfolding lutSine
 sine-line k f h s = line-small (getD lutSine k nan) (getD lutSine (k + 1) nan ⊖ getD lutSine k nan) f s (at-each lutSine table-stays k (omega arith))

@@ -11,7 +11,6 @@ use lib.Ieee.{Float, lt, le}
 use lib.Ieee.Bits.{is-true}
 use lib.Ieee.Fits.{and-i}
 use Rattle.numbers.specs.F32.{_⊕_, _⊖_, _⊗_, decimal, minusDecimal, asFloat}
-use Rattle.units.proofs.Bounds.{Sized}
 use Rattle.conversions.specs.Units.{pitchModSensitivity}
 use Rattle.patch.specs.declared.Patch.{Patch}
 use Rattle.patch.specs.declared.ModulationParameters.{ModulationParameters}
@@ -27,69 +26,58 @@ use Rattle.lfo.proofs.Accepted.{phase-part}
 use Rattle.lfo.proofs.Sequences.{init-valid, played-valid}
 use Rattle.identity.specs.Identity.{readied, identityOf}
 use Rattle.identity.proofs.Refused.{number-of}
-use Rattle.answered.proofs.Ranges.{is-share, share-low, share-high, sized-low, sized-high}
-use Rattle.answered.proofs.Shares.{Small, Share, share-small, product-small, product-sized, product-share, past-half}
+use Rattle.answered.proofs.Ranges.{share-low, share-high, held-low, held-high}
+use Rattle.answered.proofs.Shares.{Held, Share, share-small, product-small, product-two, product-share, past-half}
 use Rattle.answered.proofs.Waves.{zero-share, down-share, wave-share, drawn-share}
 use Rattle.answered.proofs.Delays.{delay-share, ramp-share}
 use Rattle.answered.proofs.Settings.{sample, frequency-slow, first-from-zero, second-from-zero, amp-depth, pitch-depth, sensitivity}
-
--- from 0 to 1
-pub record Unit (x : Float) : Type 0 where
-  pub from : T (le (decimal 0 0) x)
-  pub to : T (le x (decimal 1 0))
 
 -- an LFO whose step of 64 samples is accepted and whose modulations are in a block's ranges
 pub record Tame (lfo : Lfo) : Type 0 where
   pub valid : Valid lfo
   pub slow : T (lt (decimal 64 0 ⊗ lfo .frequency) (decimal 1 0))
-  pub value : Unit (lfo .value)
-  pub last : Unit (lfo .«random_value»)
-  pub delay : Unit (lfo .«delay_phase»)
+  pub value : Share (lfo .value)
+  pub last : Share (lfo .«random_value»)
+  pub delay : Share (lfo .«delay_phase»)
   pub first : FromZero (firstOf lfo)
   pub second : FromZero (secondOf lfo)
-  pub ampDepth : Unit (lfo .«amp_mod_depth»)
+  pub ampDepth : Share (lfo .«amp_mod_depth»)
   -- a pitch sensitivity goes up to 2
-  pub pitchDepth : Sized 2 (lfo .«pitch_mod_depth»)
-
-unit-share : (x : Float) → Unit x → Share x
-unit-share x u = is-share x (u .from) (u .to)
-
-share-unit : (x : Float) → Share x → Unit x
-share-unit x s = record { from = share-low x s; to = share-high x s }
+  pub pitchDepth : Held 2 1 (lfo .«pitch_mod_depth»)
 
 -- ---- the readings
 
-half-past : (x : Float) → Share x → Small 1 (x ⊖ decimal 5 1)
+half-past : (x : Float) → Share x → Held 1 1 (x ⊖ decimal 5 1)
 unfolding decimal
 half-past x s = past-half x s
 
-pitch-sized : (lfo : Lfo) → Tame lfo → Sized 2 (pitchModOf lfo)
+pitch-held : (lfo : Lfo) → Tame lfo → Held 2 1 (pitchModOf lfo)
 unfolding pitchModOf
-pitch-sized lfo t =
+pitch-held lfo t =
     let x = lfo .value ⊖ decimal 5 1 in
     let y = rampOf (lfo .«delay_phase») in
-    let r = share-small y (ramp-share (lfo .«delay_phase») (unit-share _ (t .delay))) in
-    product-sized (x ⊗ y) (lfo .«pitch_mod_depth») (product-small x y (half-past (lfo .value) (unit-share _ (t .value))) r) (t .pitchDepth)
+    let r = share-small y (ramp-share (lfo .«delay_phase») (t .delay)) in
+    product-two (x ⊗ y) (lfo .«pitch_mod_depth») (product-small x y (half-past (lfo .value) (t .value)) r) (t .pitchDepth)
 
 amp-share : (lfo : Lfo) → Tame lfo → Share (ampModOf lfo)
 unfolding ampModOf
 amp-share lfo t =
     let x = decimal 1 0 ⊖ lfo .value in
     let y = rampOf (lfo .«delay_phase») in
-    let r = ramp-share (lfo .«delay_phase») (unit-share _ (t .delay)) in
-    product-share (x ⊗ y) (lfo .«amp_mod_depth») (product-share x y (down-share (lfo .value) (unit-share _ (t .value))) r) (unit-share _ (t .ampDepth))
+    let r = ramp-share (lfo .«delay_phase») (t .delay) in
+    product-share (x ⊗ y) (lfo .«amp_mod_depth») (product-share x y (down-share (lfo .value) (t .value)) r) (t .ampDepth)
 
 pub pitch-within : (lfo : Lfo) → Tame lfo → (pitchModAnswer lfo .number ≡ 0) × T (between (minusDecimal 4 0) (decimal 4 0) (pitchModAnswer lfo .value))
 unfolding pitchModAnswer readAnswer
 pitch-within lfo t =
-    let p = pitch-sized lfo t in
-    rw (is-true (stateFits lfo) (t .valid .accepted)) (refl, and-i (le (minusDecimal 4 0) (pitchModOf lfo)) (le (pitchModOf lfo) (decimal 4 0)) (sized-low (pitchModOf lfo) p) (sized-high (pitchModOf lfo) p))
+    let p = pitch-held lfo t in
+    rw (is-true (stateFits lfo) (t .valid .accepted)) (refl, and-i (le (minusDecimal 4 0) (pitchModOf lfo)) (le (pitchModOf lfo) (decimal 4 0)) (held-low (pitchModOf lfo) p) (held-high (pitchModOf lfo) p))
 
 pub amp-within : (lfo : Lfo) → Tame lfo → (ampModAnswer lfo .number ≡ 0) × T (between (decimal 0 0) (decimal 1 0) (ampModAnswer lfo .value))
 unfolding ampModAnswer readAnswer
 amp-within lfo t =
-    let u = share-unit (ampModOf lfo) (amp-share lfo t) in
-    rw (is-true (stateFits lfo) (t .valid .accepted)) (refl, and-i (le (decimal 0 0) (ampModOf lfo)) (le (ampModOf lfo) (decimal 1 0)) (u .from) (u .to))
+    let u = amp-share lfo t in
+    rw (is-true (stateFits lfo) (t .valid .accepted)) (refl, and-i (le (decimal 0 0) (ampModOf lfo)) (le (ampModOf lfo) (decimal 1 0)) (share-low (ampModOf lfo) u) (share-high (ampModOf lfo) u))
 
 -- ---- a step
 
@@ -116,15 +104,15 @@ step-valid lfo state t = played-valid lutSine (Step (decimal 64 0) ∷ []) lfo s
 settled-tame : (lfo : Lfo) (state : ℕ) → Tame lfo → Valid (settled lutSine (stepped lfo state (decimal 64 0)) .lfo) → Tame (settled lutSine (stepped lfo state (decimal 64 0)) .lfo)
 settled-tame lfo state t v =
     let b = le (decimal 1 0) (lfo .phase ⊕ decimal 64 0 ⊗ lfo .frequency) in
-    let last = drawn-share b (lfo .«random_value») state (unit-share _ (t .last)) in
-    let delay = delay-share (lfo .«delay_phase») (firstOf lfo) (secondOf lfo) (decimal 64 0) (unit-share _ (t .delay)) (t .first) (t .second) scale-from-zero in
+    let last = drawn-share b (lfo .«random_value») state (t .last) in
+    let delay = delay-share (lfo .«delay_phase») (firstOf lfo) (secondOf lfo) (decimal 64 0) (t .delay) (t .first) (t .second) scale-from-zero in
     unfold settled stepped movedTo valued in
     record {
       valid = v;
       slow = t .slow;
-      value = share-unit _ (wave-share (lfo .waveform) _ _ (phase-part _ (v .accepted) (v .phaseFits)) last);
-      last = share-unit _ last;
-      delay = share-unit _ delay;
+      value = wave-share (lfo .waveform) _ _ (phase-part _ (v .accepted) (v .phaseFits)) last;
+      last = last;
+      delay = delay;
       first = t .first;
       second = t .second;
       ampDepth = t .ampDepth;
@@ -151,7 +139,7 @@ modulations-fit : (p : Patch) → readied p .number ≡ 0 → modulationsFit (p 
 unfolding identityOf
 modulations-fit p h = fits-of (patchFits p) (modulationsFit (p .modulations) 7) (sym (number-of p) ∙ h)
 
-rate-accepted : T (sampleRateFits (decimal 48000 0))
+pub rate-accepted : T (sampleRateFits (decimal 48000 0))
 unfolding sampleRateFits decimal le lt
 rate-accepted = tt
 
@@ -167,9 +155,13 @@ module _ (m : ModulationParameters) where
   unfolding setAnswer
   set-is lfo v h = rw (is-true (stateFits lfo) (v .accepted), h) refl
 
-  set-valid : (lfo : Lfo) → Valid lfo → modulationsFit m 7 ≡ true → Valid (adjusted lfo m)
+  -- taken or refused
+  pub set-keeps : (lfo : Lfo) → Valid lfo → Valid (setAnswer lfo m .lfo)
   unfolding played answerTo
-  set-valid lfo v h = subst Valid (set-is lfo v h) (played-valid lutSine (Set m ∷ []) lfo 0 v)
+  set-keeps lfo v = played-valid lutSine (Set m ∷ []) lfo 0 v
+
+  set-valid : (lfo : Lfo) → Valid lfo → modulationsFit m 7 ≡ true → Valid (adjusted lfo m)
+  set-valid lfo v h = subst Valid (set-is lfo v h) (set-keeps lfo v)
 
 reset-is : (lfo : Lfo) → Valid lfo → resetAnswer lfo .lfo ≡ restarted lfo
 unfolding resetAnswer
@@ -191,26 +183,25 @@ ready-is p h =
     ∙ ap (λ l. resetAnswer l .lfo) (set-is m (freshLfo sample (decimal 1 1)) fresh-valid h)
     ∙ reset-is (setTo m) (set-valid m (freshLfo sample (decimal 1 1)) fresh-valid h)
 
-pitch-depth-sized : (m : ModulationParameters) → modulationsFit m 7 ≡ true → Sized 2 (asFloat (m .«pitch_mod_depth») ⊗ decimal 1 2 ⊗ pitchModSensitivity (m .«pitch_mod_sensitivity»))
-pitch-depth-sized m h =
+pitch-depth-held : (m : ModulationParameters) → modulationsFit m 7 ≡ true → Held 2 1 (asFloat (m .«pitch_mod_depth») ⊗ decimal 1 2 ⊗ pitchModSensitivity (m .«pitch_mod_sensitivity»))
+pitch-depth-held m h =
     let x = asFloat (m .«pitch_mod_depth») ⊗ decimal 1 2 in
-    product-sized x (pitchModSensitivity (m .«pitch_mod_sensitivity»)) (share-small x (pitch-depth m h)) (sensitivity m h)
+    product-two x (pitchModSensitivity (m .«pitch_mod_sensitivity»)) (share-small x (pitch-depth m h)) (sensitivity m h)
 
 set-tame : (m : ModulationParameters) → modulationsFit m 7 ≡ true → Tame (restarted (setTo m))
 set-tame m h =
-    let none = share-unit (decimal 0 0) zero-share in
     let v = reset-valid (setTo m) (set-valid m (freshLfo sample (decimal 1 1)) fresh-valid h) in
     unfold restarted movedTo adjusted freshLfo in
     record {
       valid = v;
       slow = frequency-slow m h;
-      value = none;
-      last = none;
-      delay = none;
+      value = zero-share;
+      last = zero-share;
+      delay = zero-share;
       first = first-from-zero m h;
       second = second-from-zero m h;
-      ampDepth = share-unit _ (amp-depth m h);
-      pitchDepth = pitch-depth-sized m h;
+      ampDepth = amp-depth m h;
+      pitchDepth = pitch-depth-held m h;
     }
 
 pub ready-tame : (p : Patch) → readied p .number ≡ 0 → Tame (readied p .lfo)

@@ -13,9 +13,8 @@ use lib.Ieee.Scale.{finite}
 use Rattle.numbers.specs.F32.{decimal, minusDecimal}
 use Rattle.numbers.proofs.Views.{or-le}
 use Rattle.numbers.proofs.Casts.{or-i}
-use Rattle.units.proofs.Bounds.{Sized, sized}
 use Rattle.lfo.proofs.Phases.{FromZero, plus, minus-zero, is-from-zero, from-zero-le}
-use Rattle.answered.proofs.Shares.{Share, share, no-share, share-from-zero}
+use Rattle.answered.proofs.Shares.{Held, held, Share, share, no-share, share-from-zero}
 
 -- ---- from 0 to 1
 
@@ -46,12 +45,12 @@ share-high _ (no-share e) = or-i (ltb 0 (0 * up e * 1 + 1 * 1 * down e)) _ (lt�
 
 -- ---- from -4 to 4, for a size of at most 2
 
-pub sized-low : (x : Float) → Sized 2 x → T (le (minusDecimal 4 0) x)
+pub held-low : (x : Float) → Held 2 1 x → T (le (minusDecimal 4 0) x)
 unfolding minusDecimal le lt eq
-sized-low _ (sized false m e h) = or-i (ltb 0 (1 * 2 ^ 2 * down e + m * up e * 1)) _ (lt→ltb 0 (1 * 2 ^ 2 * down e + m * up e * 1) (let p = down-pos e in omega arith))
-sized-low _ (sized true m e h) = or-i (ltb (m * up e * 1) (1 * 2 ^ 2 * down e)) _ (lt→ltb (m * up e * 1) (1 * 2 ^ 2 * down e) (let p = down-pos e in omega arith))
+held-low _ (held false m e h) = or-i (ltb 0 (1 * 2 ^ 2 * down e + m * up e * 1)) _ (lt→ltb 0 (1 * 2 ^ 2 * down e + m * up e * 1) (let p = down-pos e in omega arith))
+held-low _ (held true m e h) = or-i (ltb (m * up e * 1) (1 * 2 ^ 2 * down e)) _ (lt→ltb (m * up e * 1) (1 * 2 ^ 2 * down e) (let p = down-pos e in omega arith))
 
-pub sized-high : (x : Float) → Sized 2 x → T (le x (decimal 4 0))
+pub held-high : (x : Float) → Held 2 1 x → T (le x (decimal 4 0))
 unfolding decimal le lt eq
-sized-high _ (sized false m e h) = or-i (ltb (m * up e * 1) (1 * 2 ^ 2 * down e)) _ (lt→ltb (m * up e * 1) (1 * 2 ^ 2 * down e) (let p = down-pos e in omega arith))
-sized-high _ (sized true m e h) = or-i (ltb 0 (m * up e * 1 + 1 * 2 ^ 2 * down e)) _ (lt→ltb 0 (m * up e * 1 + 1 * 2 ^ 2 * down e) (let p = down-pos e in omega arith))
+held-high _ (held false m e h) = or-i (ltb (m * up e * 1) (1 * 2 ^ 2 * down e)) _ (lt→ltb (m * up e * 1) (1 * 2 ^ 2 * down e) (let p = down-pos e in omega arith))
+held-high _ (held true m e h) = or-i (ltb 0 (m * up e * 1 + 1 * 2 ^ 2 * down e)) _ (lt→ltb 0 (m * up e * 1 + 1 * 2 ^ 2 * down e) (let p = down-pos e in omega arith))

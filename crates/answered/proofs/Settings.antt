@@ -12,7 +12,7 @@ use lib.Ieee.Fits.{and-l, and-r}
 use lib.Ieee.Positive.{positive}
 use Rattle.numbers.specs.F32.{_⊗_, _⊘_, decimal, minusDecimal, asFloat}
 use Rattle.numbers.proofs.Views.{no}
-use Rattle.units.proofs.Bounds.{Sized, is-sized}
+use Rattle.units.proofs.Bounds.{Sized, sized, is-sized}
 use Rattle.conversions.specs.Tables.{lutPitchModSensitivity}
 use Rattle.conversions.specs.Units.{lfoSteps, lfoFrequency, delaySteps, lfoDelay, pitchModSensitivity}
 use Rattle.patch.specs.declared.ModulationParameters.{ModulationParameters}
@@ -22,7 +22,7 @@ use Rattle.patch.specs.Packed.{within, modulationsFit}
 use Rattle.lfo.proofs.Phases.{FromZero}
 use Rattle.lfo.proofs.Accepted.{allBelow, at-each, positive-from-zero}
 use Rattle.lfo.proofs.Fields.{rate-fits, sensitivity-fits}
-use Rattle.answered.proofs.Shares.{Share}
+use Rattle.answered.proofs.Shares.{Held, held, Share}
 use Rattle.answered.proofs.Ranges.{is-share}
 
 -- ---- the tests
@@ -70,6 +70,9 @@ depth-share n h =
     let t = at-each deep 100 all-deep n (omega arith) in
     is-share x (and-l a b t) (and-r a b t)
 
+is-held : (x : Float) → Sized 2 x → Held 2 1 x
+is-held _ (sized s m e h) = held s m e (omega arith)
+
 second-to-fourth : (a b c d e : Bool) → (a && (b && (c && (d && e)))) ≡ true → (b ≡ true) × (c ≡ true) × (d ≡ true)
 second-to-fourth true true true true e h = (refl, refl, refl)
 second-to-fourth true true true false e h = no h
@@ -105,11 +108,11 @@ module _ (m : ModulationParameters) (h : modulationsFit m 7 ≡ true) where
   pub pitch-depth : Share (asFloat (m .«pitch_mod_depth») ⊗ decimal 1 2)
   pitch-depth = depth-share (m .«pitch_mod_depth») (numbers-fit .1)
 
-  pub sensitivity : Sized 2 (pitchModSensitivity (m .«pitch_mod_sensitivity»))
+  pub sensitivity : Held 2 1 (pitchModSensitivity (m .«pitch_mod_sensitivity»))
   unfolding sensitive decimal minusDecimal
   sensitivity =
       let x = pitchModSensitivity (m .«pitch_mod_sensitivity») in
       let t = at-each sensitive 8 all-sensitive (m .«pitch_mod_sensitivity») (let z = sensitivity-fits m 7 h in omega arith) in
       let a = le (minusDecimal 2 0) x in
       let b = le x (decimal 2 0) in
-      is-sized 1 1 x (is-true a (and-l a b t)) (is-true b (and-r a b t))
+      is-held x (is-sized 1 1 x (is-true a (and-l a b t)) (is-true b (and-r a b t)))

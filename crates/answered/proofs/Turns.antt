@@ -21,7 +21,7 @@ use Rattle.units.proofs.Bounds.{Upto, upto, upto-part, round-plus}
 use Rattle.sine.specs.Table.{lutSine}
 use Rattle.sine.specs.Sine.{sineOf}
 use Rattle.lfo.proofs.Phases.{FromZero, plus, minus-zero, Part, part, no-part, Sum, sum-of, sum-small, parts-add, product-at-least, past-whole}
-use Rattle.answered.proofs.Shares.{Small, rounded-small, Share, share, no-share, small-share}
+use Rattle.answered.proofs.Shares.{Held, rounded-small, Share, share, no-share, small-share}
 use Rattle.answered.proofs.Lines.{sine-line}
 
 pub part-share : (x : Float) → Part x → Share x
@@ -31,31 +31,31 @@ part-share _ (no-part e) = no-share e
 -- ---- from 0 and below 512
 
 data Low : Float → Type 0 where
-  low : (m : ℕ) (e : ℤ) → m * up e < 512 * down e → Low (fin false m e)
+  low-plus : (m : ℕ) (e : ℤ) → m * up e < 512 * down e → Low (fin false m e)
   low-zero : (e : ℤ) → Low (fin true 0 e)
 
 low-from-zero : (x : Float) → Low x → FromZero x
-low-from-zero _ (low m e h) = plus m e
+low-from-zero _ (low-plus m e h) = plus m e
 low-from-zero _ (low-zero e) = minus-zero e
 
-share-low : (x : Float) → Share x → Low x
-share-low _ (share m e h) = low m e (let p = down-pos e in omega arith)
-share-low _ (no-share e) = low-zero e
+share-below : (x : Float) → Share x → Low x
+share-below _ (share m e h) = low-plus m e (let p = down-pos e in omega arith)
+share-below _ (no-share e) = low-zero e
 
 low-below : (x : Float) → Low x → lt x (fin false 1 (pos 31)) ≡ true
 unfolding lt
-low-below _ (low m e h) = lt-ltb (m * up e * 1) (1 * 2 ^ 31 * down e) (let p = down-pos e in omega arith)
+low-below _ (low-plus m e h) = lt-ltb (m * up e * 1) (1 * 2 ^ 31 * down e) (let p = down-pos e in omega arith)
 low-below _ (low-zero e) = lt-ltb 0 (0 * up e * 1 + 1 * 2 ^ 31 * down e) (let p = down-pos e in omega arith)
 
 -- its whole part is below 512, and both casts give it
 low-index : (x : Float) → Low x → toUnsigned 64 x < 512
 unfolding toUnsigned
-low-index _ (low m e h) = let q : m * up e / down e < 512 = div-lt-iff-lt-mul (down-pos e) .1 h in omega arith
+low-index _ (low-plus m e h) = let q : m * up e / down e < 512 = div-lt-iff-lt-mul (down-pos e) .1 h in omega arith
 low-index _ (low-zero e) = omega arith
 
 low-casts : (x : Float) → Low x → toSigned 31 x ≡ pos (toUnsigned 64 x)
 unfolding toUnsigned toSigned
-low-casts _ (low m e h) = let q : m * up e / down e < 512 = div-lt-iff-lt-mul (down-pos e) .1 h in ap pos (omega arith)
+low-casts _ (low-plus m e h) = let q : m * up e / down e < 512 = div-lt-iff-lt-mul (down-pos e) .1 h in ap pos (omega arith)
 low-casts _ (low-zero e) =
     let q : 0 * up e / down e < 1 = div-lt-iff-lt-mul (down-pos e) .1 (let p = down-pos e in omega arith) in
     let z : min (0 * up e / down e) (2 ^ 31) ≡ 0 = omega arith in
@@ -68,11 +68,11 @@ low-past x f l = subst (λ (z : ℤ). Part (x ⊖ ofInt binary32 z)) (low-casts 
 -- ---- the index, and the place
 
 upto-low : (x : Float) → Upto 16777215 (2 ^ 23) x → Low x
-upto-low _ (upto m e h) = low m e (let p = down-pos e in omega arith)
+upto-low _ (upto m e h) = low-plus m e (let p = down-pos e in omega arith)
 
 sum-low : (x : Float) → Sum x → Low x
 unfolding round
-sum-low _ (sum-small x p) = share-low x (part-share x p)
+sum-low _ (sum-small x p) = share-below x (part-share x p)
 sum-low _ (sum-of n d p h) =
     upto-low (round binary32 false n d)
     (upto-part 16777215 22 (round binary32 false n d) (round-plus n d) (is-true _ (round-mono binary32 n d 16777215 (2 ^ 23) p (omega arith) h)))
@@ -101,7 +101,7 @@ clamped-part x p = go (lt x (fin false 0 (pos 0))) (lt (fin false 1 (pos 0)) x) 
     go false false l = p
 
 upto-place : (x : Float) → Upto 16777215 (2 ^ 15) x → Low x
-upto-place _ (upto m e h) = low m e (let p = down-pos e in omega arith)
+upto-place _ (upto m e h) = low-plus m e (let p = down-pos e in omega arith)
 
 place-low : (x : Float) → Part x → Low (x ⊗ fin false 1 (pos 9))
 unfolding mul round
@@ -114,19 +114,19 @@ place-low _ (part m e h) =
 place-low _ (no-part e) =
     let x = fin true 0 e in
     let y = fin false 1 (pos 9) in
-    share-low (x ⊗ y)
+    share-below (x ⊗ y)
     (small-share (x ⊗ y) (product-at-least x y (minus-zero e) (plus 1 (pos 9)))
     (rounded-small true (0 * up e * (1 * 2 ^ 9)) (down e * 1) (let p = down-pos e in omega arith) (omega arith)))
 
 -- ---- the line there
 
-line-small : (place : Float) → T (fits binary32 place) → Low place → Small 1 (lineAt lutSine place)
+line-small : (place : Float) → T (fits binary32 place) → Low place → Held 1 1 (lineAt lutSine place)
 line-small place f l =
     let i = toUnsigned 64 place in
     let h = low-index place l in
-    subst (Small 1) (between lutSine place i refl (asFloat i) refl (unfold lutSine in omega arith)) (sine-line i (place ⊖ asFloat i) h (part-share (place ⊖ asFloat i) (low-past place f l)))
+    subst (Held 1 1) (between lutSine place i refl (asFloat i) refl (unfold lutSine in omega arith)) (sine-line i (place ⊖ asFloat i) h (part-share (place ⊖ asFloat i) (low-past place f l)))
 
-pub sine-small : (phase : Float) → Part phase → Small 1 (sineOf lutSine (phase ⊕ fin false 1 (negsuc 0)))
+pub sine-small : (phase : Float) → Part phase → Held 1 1 (sineOf lutSine (phase ⊕ fin false 1 (negsuc 0)))
 unfolding sineOf interpolatedWrap interpolated decimal
 sine-small phase p =
     let x = clamped (phase ⊕ fin false 1 (negsuc 0) ⊖ ofInt binary32 (toSigned 31 (phase ⊕ fin false 1 (negsuc 0)))) in
