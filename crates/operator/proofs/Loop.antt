@@ -25,12 +25,12 @@ module _ (lut : List Float) (source : Source) (add : Bool) (s₀ : Chain) (out�
   pub begin : Rendering 0 s₀ out₀
   begin = record { samples = refl; chains = refl; size = refl }
 
-  written-more : (i : ℕ) (s : Chain) (out : List Float) → i < length out
+  pub written-more : (i : ℕ) (s : Chain) (out : List Float) → i < length out
       → written lut source add i s (drop i out) ≡ mixed add (getD out i nan) (heard lut source i s) ∷ written lut source add (suc i) (next lut source i s) (drop (suc i) out)
   unfolding written
   written-more i s out h = ap (written lut source add i s) (drop-cons out i nan h)
 
-  ended-more : (i : ℕ) (s : Chain) (out : List Float) → i < length out
+  pub ended-more : (i : ℕ) (s : Chain) (out : List Float) → i < length out
       → ended lut source (length (drop i out)) i s ≡ ended lut source (length (drop (suc i) out)) (suc i) (next lut source i s)
   unfolding ended
   ended-more i s out h = ap (λ (l : List Float). ended lut source (length l) i s) (drop-cons out i nan h)

@@ -1,10 +1,13 @@
 -- A chain of operators over a block: what modulates it, one sample of it, and all of them. Definitions only.
-use Prim.Native.Nat.{ℕ, zero, suc}
-use mathlib.Core.Bool.{Bool}
-use mathlib.Core.List.{List, [], _∷_}
-use lib.ListN.{getD}
+use Prim.Native.Nat.{ℕ, zero, suc, _+_, _<_}
+use mathlib.Core.Path.{_≡_}
+use mathlib.Core.Bool.{Bool, true, _&&_}
+use mathlib.Core.List.{List, [], _∷_, _++_}
+use lib.ListN.{getD, length, take, drop}
 use lib.Ieee.{Float, nan}
 use Rattle.numbers.specs.F32.{decimal}
+use Rattle.numbers.specs.Words.{sum32}
+use Rattle.sine.specs.Sine.{nearBy, modulated}
 use Rattle.operator.specs.Sample.{sounded, moved, fed, pushed, mixed}
 use Rattle.operator.specs.declared.Feedback.{Feedback}
 use Rattle.operator.specs.declared.Lane.{Lane}
@@ -72,3 +75,25 @@ module _ (lut : List Float) (source : Source) where
   unfoldable pub written : Bool → ℕ → Chain → List Float → List Float
   written add i s [] = []
   written add i s (there ∷ out) = mixed add there (heard i s) ∷ written add (suc i) (next i s) out
+
+-- ---- a block by parts
+
+-- whether each modulation lies from -31 to 30 turns
+unfoldable pub allNear : List Float → Bool
+allNear [] = true
+allNear (pm ∷ pms) = nearBy pm && allNear pms
+
+-- a phase so many steps on, wrapped
+unfoldable pub stepped : ℕ → ℕ → ℕ → ℕ
+stepped zero phase step = phase
+stepped (suc k) phase step = sum32 (stepped k phase step) step
+
+-- the first n of `at` are the modulated phases from sample i on, of an operator that comes with this phase
+pub record Placed (modulation : List Float) (i n phase step : ℕ) (at : List ℕ) : Type 0 where
+  pub placed : (k : ℕ) → k < n → getD at k 0 ≡ modulated (stepped (k + 1) phase step) (getD modulation (i + k) nan)
+
+-- what is written before sample i, and what is still to come from there, are all these samples; the chain will end like this
+pub record Going (lut : List Float) (source : Source) (add : Bool) (all : List Float) (end : Chain) (total i : ℕ) (s : Chain) (out : List Float) : Type 0 where
+  pub samples : take i out ++ written lut source add i s (drop i out) ≡ all
+  pub chains : ended lut source (length (drop i out)) i s ≡ end
+  pub size : length out ≡ total

@@ -1,11 +1,13 @@
 // One block of a chain of operators, after operator.rs: phases that wrap, amplitudes that ramp to their targets, and the
 // renderers that a plan can name. Each promises the samples and the state that the definition names, for every input.
 ghost use mathlib.Core.Path.{_≡_};
-ghost use Prim.Native.Nat.{_≤_};
-ghost use lib.ListN.{length};
+ghost use mathlib.Core.Bool.{true};
+ghost use mathlib.Core.List.{_++_};
+ghost use Prim.Native.Nat.{_+_, _≤_};
+ghost use lib.ListN.{length, take, drop};
 ghost use Rattle.operator.specs.Sample.{still, laneOf, operatorOf, moved, sounded, fed, pushed, mixed};
 ghost use Rattle.operator.specs.Sample.{feedbackScale, rampScale};
-ghost use Rattle.operator.specs.Chain.{Source, one, two, three, written, ended};
+ghost use Rattle.operator.specs.Chain.{Source, one, two, three, written, ended, allNear, Placed, Going};
 
 // What a block leaves behind of an operator.
 pub struct Operator {
@@ -188,6 +190,135 @@ fn external(lut: &[f32; 1024], s: Single, add: bool, modulation: &[f32], out: &m
     }
 }
 
+// Whether every modulation lies from -31 to 30 turns.
+fn all_near(modulation: &[f32]) -> bool
+    ensures { λ r. ⌜ r ≡ allNear (now (modulation .entry)) ⌝ }
+{
+    let mut near = true;
+    let mut i = 0usize;
+    while i < modulation.len() {
+        near = near & sine::is_near(modulation[i]);
+        i = i + 1;
+    }
+    near
+}
+
+// The modulated phases of n samples from sample i on. The compiler does four at a time.
+fn set_phases(modulation: &[f32], i: usize, n: usize, phase: u32, step: u32, at: &mut [u32; 64])
+    requires { ⌜ (allNear (now modulation) ≡ true) × (i + n ≤ length (now modulation)) × (n ≤ 64) × (length (now at) ≡ 64) ⌝ }
+    ensures { λ _. ⌜ Placed (now (modulation .entry)) i n phase step (now (at .exit)) × (length (now (at .exit)) ≡ 64) ⌝ }
+{
+    let mut p = phase;
+    let mut k = 0usize;
+    while k < n {
+        p = numbers::wrapping_add_u32(p, step);
+        at[k] = sine::modulate_near(p, modulation[i + k]);
+        k = k + 1;
+    }
+}
+
+// The n samples from sample i on, at their phases.
+fn lines(
+    lut: &[f32; 1024],
+    s: Single,
+    add: bool,
+    modulation: &[f32],
+    i: usize,
+    n: usize,
+    at: &[u32; 64],
+    out: &mut [f32],
+) -> Single
+    requires { ⌜ (i + n ≤ length (now out)) × (n ≤ 64) × Placed (now modulation) i n (s .first .phase) (s .first .step) (now at) ⌝ }
+    ensures { λ r. ⌜ Going (now (lut .entry)) (Source.external (now (modulation .entry))) add (take i (now (out .entry)) ++ written (now (lut .entry)) (Source.external (now (modulation .entry))) add i (one s) (drop i (now (out .entry)))) (ended (now (lut .entry)) (Source.external (now (modulation .entry))) (length (drop i (now (out .entry)))) i (one s)) (length (now (out .entry))) (i + n) (one r) (now (out .exit)) ⌝ }
+{
+    let mut l = s.first;
+    let f = s.feedback;
+    let mut k = 0usize;
+    while k < n {
+        let pm = sine::line(lut, at[k]) * l.amplitude;
+        l = advance(l);
+        out[i + k] = mix(add, out[i + k], pm);
+        k = k + 1;
+    }
+    Single {
+        first: l,
+        feedback: f,
+    }
+}
+
+// The same, where every modulation is near.
+fn chunk(
+    lut: &[f32; 1024],
+    s: Single,
+    add: bool,
+    modulation: &[f32],
+    i: usize,
+    n: usize,
+    at: &mut [u32; 64],
+    out: &mut [f32],
+) -> Single
+    requires { ⌜ (allNear (now modulation) ≡ true) × (i + n ≤ length (now modulation)) × (i + n ≤ length (now out)) × (n ≤ 64) × (length (now at) ≡ 64) ⌝ }
+    ensures { λ r. ⌜ Going (now (lut .entry)) (Source.external (now (modulation .entry))) add (take i (now (out .entry)) ++ written (now (lut .entry)) (Source.external (now (modulation .entry))) add i (one s) (drop i (now (out .entry)))) (ended (now (lut .entry)) (Source.external (now (modulation .entry))) (length (drop i (now (out .entry)))) i (one s)) (length (now (out .entry))) (i + n) (one r) (now (out .exit))
+        × (length (now (at .exit)) ≡ 64) ⌝ }
+{
+    let l = s.first;
+    set_phases(modulation, i, n, l.phase, l.step, at);
+    lines(lut, s, add, modulation, i, n, at, out)
+}
+
+// How many samples come next: 64, or what is left.
+fn portion(i: usize, all: usize) -> usize
+    requires { ⌜ i + 1 ≤ all ⌝ }
+    ensures { λ r. ⌜ (1 ≤ r) × (r ≤ 64) × (i + r ≤ all) ⌝ }
+{
+    let left = all - i;
+    if left < 64 {
+        return left;
+    }
+    64
+}
+
+// A whole block by chunks, where every modulation is near.
+fn near_external(
+    lut: &[f32; 1024],
+    s: Single,
+    add: bool,
+    modulation: &[f32],
+    out: &mut [f32],
+) -> Single
+    requires { ⌜ (allNear (now modulation) ≡ true) × (length (now out) ≤ length (now modulation)) ⌝ }
+    ensures { λ r. ⌜ (now (out .exit) ≡ written (now (lut .entry)) (Source.external (now (modulation .entry))) add 0 (one s) (now (out .entry)))
+        × (one r ≡ ended (now (lut .entry)) (Source.external (now (modulation .entry))) (length (now (out .entry))) 0 (one s)) ⌝ }
+{
+    let mut at = [0u32; 64];
+    let mut t = s;
+    let mut i = 0usize;
+    while i < out.len() {
+        let n = portion(i, out.len());
+        t = chunk(lut, t, add, modulation, i, n, &mut at, out);
+        i = i + n;
+    }
+    t
+}
+
+// By chunks, or sample by sample.
+fn either_external(
+    lut: &[f32; 1024],
+    s: Single,
+    add: bool,
+    modulation: &[f32],
+    out: &mut [f32],
+) -> Single
+    requires { ⌜ length (now out) ≤ length (now modulation) ⌝ }
+    ensures { λ r. ⌜ (now (out .exit) ≡ written (now (lut .entry)) (Source.external (now (modulation .entry))) add 0 (one s) (now (out .entry)))
+        × (one r ≡ ended (now (lut .entry)) (Source.external (now (modulation .entry))) (length (now (out .entry))) 0 (one s)) ⌝ }
+{
+    if all_near(modulation) {
+        return near_external(lut, s, add, modulation, out);
+    }
+    external(lut, s, add, modulation, out)
+}
+
 // The same, by one of the two loops.
 pub fn render_external(
     lut: &[f32; 1024],
@@ -201,9 +332,9 @@ pub fn render_external(
         × (one r ≡ ended (now (lut .entry)) (Source.external (now (modulation .entry))) (length (now (out .entry))) 0 (one s)) ⌝ }
 {
     if add {
-        return external(lut, s, true, modulation, out);
+        return either_external(lut, s, true, modulation, out);
     }
-    external(lut, s, false, modulation, out)
+    either_external(lut, s, false, modulation, out)
 }
 
 // One operator, modulated by its own last two samples.

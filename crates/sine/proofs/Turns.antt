@@ -27,7 +27,7 @@ turn = fin false 1 (pos 32)
 
 -- ---- what a whole number is cast to
 
-value-number : (x : Float) (n : ℕ) → HasValue x false n 1 → isNan x ≡ false
+pub value-number : (x : Float) (n : ℕ) → HasValue x false n 1 → isNan x ≡ false
 unfolding isNan
 value-number nan n v = absurd v
 value-number (inf s) n v = absurd v
@@ -38,21 +38,21 @@ quotient m n e v =
     let w : m * up e ≡ n * down e = sym (mul-one (m * up e)) ∙ v in
     rw w (mul-div-cancel n (down-pos e), mul-mod-left n (down e))
 
-value-cast : (w n : ℕ) (x : Float) → HasValue x false n 1 → n < 2 ^ w → toUnsigned w x ≡ n
+pub value-cast : (w n : ℕ) (x : Float) → HasValue x false n 1 → n < 2 ^ w → toUnsigned w x ≡ n
 unfolding toUnsigned
 value-cast w n nan v h = absurd v
 value-cast w n (inf s) v h = absurd v
 value-cast w n (fin true m e) v h = on (v .0)
 value-cast w n (fin false m e) v h = rw (quotient m n e (v .1) .0) (omega arith)
 
-value-signed : (h n : ℕ) (x : Float) → HasValue x false n 1 → n < 2 ^ h → toSigned h x ≡ pos n
+pub value-signed : (h n : ℕ) (x : Float) → HasValue x false n 1 → n < 2 ^ h → toSigned h x ≡ pos n
 unfolding toSigned
 value-signed h n nan v b = absurd v
 value-signed h n (inf s) v b = absurd v
 value-signed h n (fin true m e) v b = on (v .0)
 value-signed h n (fin false m e) v b = rw (quotient m n e (v .1) .0) (ap pos (omega arith))
 
-value-in : (w n : ℕ) (x : Float) → HasValue x false n 1 → n ≤ 2 ^ 53 → n < 2 ^ w → T (inSigned binary64 w x)
+pub value-in : (w n : ℕ) (x : Float) → HasValue x false n 1 → n ≤ 2 ^ 53 → n < 2 ^ w → T (inSigned binary64 w x)
 unfolding inSigned whole
 value-in w n nan v k h = absurd v
 value-in w n (inf s) v k h = absurd v
@@ -79,7 +79,7 @@ lowered (fin s m e) n d p v =
     (v .0, mul-one (m * up e) ∙ eq-of-mul-eq-mul-right d p (m * up e) (n * down e) (v .1 ∙ mul-right-comm n d (down e)))
 
 -- a whole number in the normal range, and 2 ^ t times as much
-raised : (f : Format) (a c t n : ℕ) → 0 < c → prec f ≤ size (a * 2 ^ low f / c) → T (finite (round f false a c)) → T (finite (round f false (a * 2 ^ t) c))
+pub raised : (f : Format) (a c t n : ℕ) → 0 < c → prec f ≤ size (a * 2 ^ low f / c) → T (finite (round f false a c)) → T (finite (round f false (a * 2 ^ t) c))
     → HasValue (round f false a c) false n 1 → HasValue (round f false (a * 2 ^ t) c) false (n * 2 ^ t) 1
 raised f a c t n p q s r v =
     let x = round f false a c in
@@ -100,7 +100,7 @@ large-whole : (x : Float) → T (fits binary32 x) → AtLeast 23 x → Under 32 
 large-whole _ f (ge-fin m (negsuc k) g) u = absurd (no-fraction m k (digits-lt m (negsuc k) f) g)
 large-whole _ f (ge-fin m (pos k) g) (lt-fin _ _ l) = is-whole (fin false m (pos k)) (m * 2 ^ k) (omega arith) (refl, refl)
 
-large-finite : (x : Float) → AtLeast 23 x → Under 32 x → T (finite x)
+pub large-finite : (x : Float) → AtLeast 23 x → Under 32 x → T (finite x)
 large-finite _ (ge-fin m e g) u = tt
 
 same-turn : T (le turn turn)
@@ -114,7 +114,7 @@ turn-finite l (h, k) =
     positive-finite (l ⊗ turn)
     (between (lowest ⊗ turn) (l ⊗ turn) (highest ⊗ turn) tt tt (mul-mono binary32 lowest l turn turn tt p tt tt h same-turn) (mul-mono binary32 l highest turn turn p tt tt tt k same-turn))
 
-at-least-one : (l : Float) → Within l → T (positive l) × (den l ≤ num l)
+pub at-least-one : (l : Float) → Within l → T (positive l) × (den l ≤ num l)
 unfolding Within
 at-least-one l (h, k) =
     let p = between lowest l highest tt tt h k in

@@ -1,9 +1,10 @@
 -- The sine by lookup, one rounding per written operation, in the Rust's order. Definitions only.
+use mathlib.Core.Bool.{Bool, _&&_}
 use mathlib.Core.List.{List}
 use Prim.Native.Nat.{ℕ, _+_, _*_, _/_, _^_}
 use lib.ListN.{getD}
-use lib.Ieee.{Float, nan, toUnsigned}
-use Rattle.numbers.specs.F32.{_⊕_, _⊖_, _⊗_, _⊘_, decimal, asFloat}
+use lib.Ieee.{Float, nan, toUnsigned, le}
+use Rattle.numbers.specs.F32.{_⊕_, _⊖_, _⊗_, _⊘_, decimal, minusDecimal, asFloat}
 use Rattle.numbers.specs.Words.{sum32, product32, shifted32}
 use Rattle.utils.specs.Interpolate.{interpolatedWrap}
 
@@ -14,6 +15,10 @@ sineOf lut phase = interpolatedWrap lut phase (decimal 512 0)
 -- a modulation in turns, lifted by 32 and cut to 32 bits in steps of 1 / 2 ^ 26
 unfoldable pub stepsOf : Float → ℕ
 stepsOf pm = toUnsigned 32 ((pm ⊕ decimal 32 0) ⊗ (decimal 4294967296 0 ⊘ decimal 64 0))
+
+-- from -31 to 30 turns: there the steps are whole with no cutting
+unfoldable pub nearBy : Float → Bool
+nearBy pm = le (minusDecimal 31 0) pm && le pm (decimal 30 0)
 
 -- a phase of 32 bits plus a modulation, wrapped: a step is 64 of the phase's
 unfoldable pub modulated : ℕ → Float → ℕ

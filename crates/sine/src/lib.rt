@@ -10,7 +10,8 @@ ghost use lib.Ieee.{nan};
 ghost use Rattle.numbers.specs.Words.{product32};
 ghost use Rattle.sine.specs.Table.{lutSine};
 ghost use Rattle.sine.specs.Pairs.{sinePairs};
-ghost use Rattle.sine.specs.Sine.{sineOf, stepsOf, modulated, phaseLine, sinePm};
+ghost use mathlib.Core.Bool.{true};
+ghost use Rattle.sine.specs.Sine.{sineOf, stepsOf, nearBy, modulated, phaseLine, sinePm};
 ghost use Rattle.sine.specs.Bound.{within};
 
 mod pairs;
@@ -66,6 +67,30 @@ fn turned(pm: f32) -> u32
     steps(pm) << 6
 }
 
+// Whether a modulation lies from -31 to 30 turns.
+pub fn is_near(pm: f32) -> bool
+    ensures { λ r. ⌜ r ≡ nearBy pm ⌝ }
+{
+    (pm >= -31.0) & (pm <= 30.0)
+}
+
+// The phase plus a modulation from -31 to 30 turns, wrapped: no test and a cast to i32, so that a loop of it is done four samples at a time.
+pub fn modulate_near(phase: u32, pm: f32) -> u32
+    requires { ⌜ nearBy pm ≡ true ⌝ }
+    ensures { λ r. ⌜ r ≡ modulated phase pm ⌝ }
+{
+    numbers::wrapping_add_u32(phase, turned_near(pm))
+}
+
+// Such a modulation in the phase's own steps. Lifted it is from 1 to 62, so times 2^25 it is a whole number below 2^31.
+fn turned_near(pm: f32) -> u32
+    requires { ⌜ nearBy pm ≡ true ⌝ }
+    ensures { λ r. ⌜ r ≡ product32 (stepsOf pm) 64 ⌝ }
+{
+    let halves = (((pm + 32.0) * 33554432.0) as f64) as i32;
+    (halves as u32) << 7
+}
+
 // A modulation in steps of a 2^26th, as Rust casts it.
 fn steps(pm: f32) -> u32
     ensures { λ r. ⌜ r ≡ stepsOf pm ⌝ }
@@ -81,7 +106,7 @@ fn steps(pm: f32) -> u32
 // The straight line from the entry at a phase towards the next. The phase's lowest 23 bits over 2^23 are an
 // f32, with no rounding: the same as Rust's quotient by 2^32. They are what the highest nine leave of the phase: by a
 // mask of their own the compiler masks the nine as well, and the load waits for it.
-fn line(pairs: &[f32; 1024], phase: u32) -> f32
+pub fn line(pairs: &[f32; 1024], phase: u32) -> f32
     ensures { λ r. ⌜ r ≡ phaseLine (now (pairs .entry)) phase ⌝ }
 {
     let integral = (phase >> 23) as usize;

@@ -1,0 +1,92 @@
+-- `operator::set_phases` meets its contract. Assumes nothing.
+use mathlib.Core.Path.{_≡_, refl, subst, _∙_}
+use denote.Ref.{now}
+use Prim.Native.Nat.{ℕ, _-_, _≤_}
+use lib.ListN.{length}
+use Rattle.operator.specs.Chain.{Placed}
+use Rattle.operator.proofs.Parts.{Placing, placing-first, placing-turn, near-at, set-length}
+use borrow.Author.Needs.{needs}
+use native.Mathlib.Omega.{arith}
+use Rattle.operator.proofs.set_phases.Statement.{statement}
+use Rattle.operator.proofs.set_phases.Tie as tie
+use Rattle.operator.proofs.set_phases.Reads as reads
+use Rattle.operator.proofs.set_phases.Lts as lts
+use Rattle.numbers.proofs.wrapping_add_u32.Reads as wrapping-add-u32-reads
+use Rattle.sine.proofs.modulate_near.Reads as modulate-near-reads
+
+abbrev Inv-loop : tie.InvT-loop
+Inv-loop modulation i n phase step at₀ p₀ k₀ at p k = Placing modulation i phase step k p at × (length at ≡ 64) × (k ≤ n)
+
+abbrev μ-loop : tie.MeasureT-loop
+μ-loop modulation i n phase step at₀ p₀ k₀ at p k = n - k
+
+-- src/lib.rt:213:5
+loop-holds : tie.Need-loop-holds Inv-loop μ-loop
+loop-holds c = (placing-first _ _ _ _ _, c .before .pre .3, omega arith)
+
+-- src/lib.rt:214:9
+wrapping-add-u32-requires : tie.Need-wrapping-add-u32-requires Inv-loop μ-loop
+wrapping-add-u32-requires c κs = search needs
+
+-- src/lib.rt:215:51
+add-modulate-near : tie.Need-add-modulate-near Inv-loop μ-loop
+add-modulate-near c = omega arith
+
+-- src/lib.rt:215:40
+mul-modulate-near : tie.Need-mul-modulate-near Inv-loop μ-loop
+mul-modulate-near c = omega arith
+
+-- src/lib.rt:215:40
+shared-slice-read-modulate-near : tie.Need-shared-slice-read-modulate-near Inv-loop μ-loop
+shared-slice-read-modulate-near c = omega arith
+
+-- src/lib.rt:215:17
+modulate-near-requires : tie.Need-modulate-near-requires Inv-loop μ-loop
+modulate-near-requires c κs = near-at _ _ (c .before .before .before .before .before .pre .0) (omega arith)
+
+-- src/lib.rt:215:9
+mul-at : tie.Need-mul-at Inv-loop μ-loop
+mul-at c = omega arith
+
+-- src/lib.rt:215:9
+element-write-at : tie.Need-element-write-at Inv-loop μ-loop
+element-write-at c = omega arith
+
+-- src/lib.rt:216:13
+add-k : tie.Need-add-k Inv-loop μ-loop
+add-k c = omega arith
+
+-- src/lib.rt:213:5
+loop-less : tie.Need-loop-less Inv-loop μ-loop
+loop-less c = omega arith
+
+-- src/lib.rt:213:5
+loop-again : tie.Need-loop-again Inv-loop μ-loop
+loop-again c =
+    let v = c .before .before .before .before .loop .inv in
+    (placing-turn _ _ _ _ _ (c .before .before .before .before .loop .p) _ _ _ (v .0) (omega arith) (c .before .before .wrapping-add-u32 .ensures) (c .modulate-near .ensures), set-length (c .before .before .before .before .loop .at) _ _ (v .1), omega arith)
+
+-- src/lib.rt:207:1
+returns : tie.Need-returns Inv-loop μ-loop
+returns c =
+    let v = c .before .loop .inv in
+    (subst (λ (k : ℕ). Placed (now (c .before .before .before .args .modulation)) (c .before .before .before .args .i) k (c .before .before .before .args .phase) (c .before .before .before .args .step) (c .before .loop .at)) (omega arith) (v .0 .before), v .1)
+
+pub set-phases-spec : {M : Type 1} → statement M
+set-phases-spec =
+    tie.close
+    (tie.spec
+    Inv-loop
+    μ-loop
+    loop-holds
+    wrapping-add-u32-requires
+    add-modulate-near
+    mul-modulate-near
+    shared-slice-read-modulate-near
+    modulate-near-requires
+    mul-at
+    element-write-at
+    add-k
+    loop-less
+    loop-again
+    returns)
