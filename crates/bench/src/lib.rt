@@ -259,7 +259,7 @@ fn packed_in_turn(patches: [Patch; 8], times: usize) -> [[u8; 128]; 8] {
     let mut i = 0usize;
     while i < times {
         let k = i % 8;
-        let done = packer::pack(patches[k]);
+        let done = patch_packer::pack(patches[k]);
         let packed = done.bytes;
         out[k] = packed;
         i += 1;
@@ -272,7 +272,7 @@ fn checked_in_turn(patches: [Patch; 8], times: usize) -> u8 {
     let mut all = 0u8;
     let mut i = 0usize;
     while i < times {
-        all = all ^ limits::check(patches[i % 8]);
+        all = all ^ patch_limits::check(patches[i % 8]);
         i += 1;
     }
     all
@@ -323,7 +323,7 @@ pub extern "C" fn bench_check(bytes: &[u8], times: usize) -> u8 {
 pub extern "C" fn bench_again(bytes: &[u8], out: &mut [u8; 128]) -> u8 {
     let read = patch::unpack(Patch::new(), bytes);
     let p = read.patch;
-    let done = packer::pack(p);
+    let done = patch_packer::pack(p);
     let packed = done.bytes;
     *out = packed;
     done.number
@@ -384,7 +384,7 @@ pub extern "C" fn bench_voice(bytes: &[u8], note: f32, blocks: u32, block: &mut 
     let pairs = sine::sine_pairs();
     let high = units::lut_pitch_ratio_high();
     let low = units::lut_pitch_ratio_low();
-    let table = opcodes::opcodes_6_32();
+    let table = algorithms_opcodes::opcodes_6_32();
     let read = patch::unpack(Patch::new(), bytes);
     let patch = read.patch;
     let started = voice::init(6, 48000.0);

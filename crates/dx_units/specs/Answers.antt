@@ -11,12 +11,12 @@ use Rattle.dx_units.specs.declared.Converted.{Converted}
 use Rattle.dx_units.specs.declared.Converted.the-variants as converted
 use Rattle.dx_units.specs.declared.Delay.{Delay}
 use Rattle.dx_units.specs.declared.Delay.the-variants as delayed
-use Rattle.conversions.specs.declared.Increments.{Increments}
-use Rattle.conversions.specs.declared.Ratio.{Ratio}
+use Rattle.dx_units_inner.specs.declared.Increments.{Increments}
+use Rattle.dx_units_inner.specs.declared.Ratio.{Ratio}
 use Rattle.dx_units.specs.declared.Tuning.{Tuning}
 use Rattle.dx_units.specs.declared.Tuning.the-variants as tuned
-use Rattle.conversions.specs.Units.{operatorLevel, pitchEnvelopeLevel, operatorEnvelopeIncrement, pitchEnvelopeIncrement, lfoFrequency, lfoDelay}
-use Rattle.conversions.specs.Units.{normalizedVelocity, rateScaling, ampModSensitivity, pitchModSensitivity, keyboardScaling, frequencyRatio}
+use Rattle.dx_units_inner.specs.Units.{operatorLevel, pitchEnvelopeLevel, operatorEnvelopeIncrement, pitchEnvelopeIncrement, lfoFrequency, lfoDelay}
+use Rattle.dx_units_inner.specs.Units.{normalizedVelocity, rateScaling, ampModSensitivity, pitchModSensitivity, keyboardScaling, frequencyRatio}
 
 -- ---- document 01's number of an answer: 0 where nothing is refused
 

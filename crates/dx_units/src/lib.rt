@@ -9,12 +9,12 @@ ghost use Rattle.dx_units.specs.Answers.{lfoFrequencyAnswer, lfoDelayAns
 ghost use Rattle.dx_units.specs.Answers.{rateScalingAnswer, ampModSensitivityAnswer};
 ghost use Rattle.dx_units.specs.Answers.{pitchModSensitivityAnswer, keyboardScalingAnswer};
 ghost use Rattle.dx_units.specs.Answers.{keyboardFits, frequencyRatioAnswer, frequencyFits};
-pub use conversions::Increments;
-pub use conversions::Ratio;
-pub use conversions::frequency_step;
-pub use conversions::lut_coarse;
-pub use conversions::lut_cube_root;
-pub use powers::pow_2_fast;
+pub use dx_units_inner::Increments;
+pub use dx_units_inner::Ratio;
+pub use dx_units_inner::frequency_step;
+pub use dx_units_inner::lut_coarse;
+pub use dx_units_inner::lut_cube_root;
+pub use dx_units_power::pow_2_fast;
 
 // A level, or the number of a refusal.
 pub enum Level {
@@ -47,7 +47,7 @@ pub fn operator_level(level: u8) -> Level
     if level > 99 {
         return Level::Refused(6);
     }
-    Level::Value(conversions::operator_level(level))
+    Level::Value(dx_units_inner::operator_level(level))
 }
 
 // A pitch envelope's level from 0 to 99 in octaves: 18 is one down, 50 none, 82 one up.
@@ -57,7 +57,7 @@ pub fn pitch_envelope_level(level: u8) -> Converted
     if level > 99 {
         return Converted::Refused(6);
     }
-    Converted::Value(conversions::pitch_envelope_level(level))
+    Converted::Value(dx_units_inner::pitch_envelope_level(level))
 }
 
 // An operator envelope's rate from 0 to 99 as a frequency.
@@ -67,7 +67,7 @@ pub fn operator_envelope_increment(rate: u8) -> Converted
     if rate > 99 {
         return Converted::Refused(6);
     }
-    Converted::Value(conversions::operator_envelope_increment(rate))
+    Converted::Value(dx_units_inner::operator_envelope_increment(rate))
 }
 
 // A pitch envelope's rate from 0 to 99 as a frequency.
@@ -77,7 +77,7 @@ pub fn pitch_envelope_increment(rate: u8) -> Converted
     if rate > 99 {
         return Converted::Refused(6);
     }
-    Converted::Value(conversions::pitch_envelope_increment(rate))
+    Converted::Value(dx_units_inner::pitch_envelope_increment(rate))
 }
 
 // An LFO's rate from 0 to 99 as a frequency.
@@ -87,7 +87,7 @@ pub fn lfo_frequency(rate: u8) -> Converted
     if rate > 99 {
         return Converted::Refused(6);
     }
-    Converted::Value(conversions::lfo_frequency(rate))
+    Converted::Value(dx_units_inner::lfo_frequency(rate))
 }
 
 // An LFO's delay from 0 to 99 as two increments.
@@ -97,7 +97,7 @@ pub fn lfo_delay(delay: u8) -> Delay
     if delay > 99 {
         return Delay::Refused(6);
     }
-    Delay::Value(conversions::lfo_delay(delay))
+    Delay::Value(dx_units_inner::lfo_delay(delay))
 }
 
 // A velocity from 0 to 1, made ready for its scaling.
@@ -106,7 +106,7 @@ pub fn normalize_velocity(velocity: f32) -> Converted
 {
     if velocity >= 0.0 {
         if velocity <= 1.0 {
-            return Converted::Value(conversions::normalize_velocity(velocity));
+            return Converted::Value(dx_units_inner::normalize_velocity(velocity));
         }
     }
     Converted::Refused(7)
@@ -121,7 +121,7 @@ pub fn rate_scaling(note: f32, scaling: u8) -> Converted
     }
     if note >= 0.0 {
         if note <= 127.0 {
-            return Converted::Value(conversions::rate_scaling(note, scaling));
+            return Converted::Value(dx_units_inner::rate_scaling(note, scaling));
         }
     }
     Converted::Refused(7)
@@ -134,7 +134,7 @@ pub fn amp_mod_sensitivity(sensitivity: u8) -> Converted
     if sensitivity > 3 {
         return Converted::Refused(6);
     }
-    Converted::Value(conversions::amp_mod_sensitivity(sensitivity))
+    Converted::Value(dx_units_inner::amp_mod_sensitivity(sensitivity))
 }
 
 // The pitch modulation sensitivity, from 0 to 7.
@@ -144,7 +144,7 @@ pub fn pitch_mod_sensitivity(sensitivity: u8) -> Converted
     if sensitivity > 7 {
         return Converted::Refused(6);
     }
-    Converted::Value(conversions::pitch_mod_sensitivity(sensitivity))
+    Converted::Value(dx_units_inner::pitch_mod_sensitivity(sensitivity))
 }
 
 // The level's change at a note, by the side of the break point on which it lies. All five numbers are
@@ -171,7 +171,7 @@ pub fn keyboard_scaling(
     }
     if note >= 0.0 {
         if note <= 127.0 {
-            return Converted::Value(conversions::keyboard_scaling(
+            return Converted::Value(dx_units_inner::keyboard_scaling(
                 note,
                 left_depth,
                 right_depth,
@@ -193,7 +193,7 @@ pub fn frequency_ratio(mode: u8, coarse: u8, fine: u8, detune: u8) -> Tuning
     }
     let high = units::lut_pitch_ratio_high();
     let low = units::lut_pitch_ratio_low();
-    Tuning::Value(conversions::frequency_ratio(&high, &low, mode, coarse, fine, detune))
+    Tuning::Value(dx_units_inner::frequency_ratio(&high, &low, mode, coarse, fine, detune))
 }
 
 // Whether keyboard scaling's numbers are at most their largest.

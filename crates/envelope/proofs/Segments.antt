@@ -10,7 +10,7 @@ use lib.Ieee.Scale.{round-same}
 use lib.Ieee.{Float, fin, binary32, lt, isNan, add, sub, mul, neg, sum, round, up, down, unlike}
 use Rattle.numbers.specs.F32.{_⊕_, _⊖_, _⊗_, decimal}
 use Rattle.numbers.specs.Extremes.{maximum}
-use Rattle.stages.specs.Stages.{jump}
+use Rattle.envelope_stages.specs.Stages.{jump}
 use Rattle.envelope.specs.Envelope.{bent, line, segment}
 
 -- 6.7 as it is stored

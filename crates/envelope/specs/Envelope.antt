@@ -8,7 +8,7 @@ use lib.ListN.{getD}
 use lib.Ieee.{Float, nan, lt, le, eq}
 use Rattle.numbers.specs.F32.{_⊕_, _⊖_, _⊗_, _⊘_, decimal, minusDecimal, asFloat}
 use Rattle.numbers.specs.Extremes.{maximum}
-use Rattle.stages.specs.Stages.{perStage, levelBefore, jump}
+use Rattle.envelope_stages.specs.Stages.{perStage, levelBefore, jump}
 use Rattle.envelope.specs.declared.Envelope.{Envelope}
 use Rattle.envelope.specs.declared.inner.Position.{Position}
 

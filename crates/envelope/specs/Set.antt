@@ -4,7 +4,7 @@ use Prim.Native.Nat.{ℕ}
 use lib.Dec.{eqb}
 use lib.ListN.{getD}
 use lib.Ieee.{Float}
-use Rattle.stages.specs.Stages.{operatorLevels, operatorIncrements, pitchLevels, pitchIncrements}
+use Rattle.envelope_stages.specs.Stages.{operatorLevels, operatorIncrements, pitchLevels, pitchIncrements}
 use Rattle.envelope.specs.declared.Envelope.{Envelope}
 
 -- the same envelope with other increments and levels

@@ -296,15 +296,15 @@ fn line(phase: f32, from: f32, to: f32) -> f32
 pub fn operator_set(envelope: Envelope, rate: [u8; 4], level: [u8; 4], global_level: u8) -> Envelope
     ensures { λ r. ⌜ r ≡ operatorSet envelope rate level «global_level» ⌝ }
 {
-    let levels = stages::operator_levels(level, global_level);
-    let increments = stages::operator_increments(rate, levels, level[0] == 0, envelope.scale);
+    let levels = envelope_stages::operator_levels(level, global_level);
+    let increments = envelope_stages::operator_increments(rate, levels, level[0] == 0, envelope.scale);
     set(envelope, increments, levels)
 }
 
 pub fn pitch_set(envelope: Envelope, rate: [u8; 4], level: [u8; 4]) -> Envelope
     ensures { λ r. ⌜ r ≡ pitchSet envelope rate level ⌝ }
 {
-    let levels = stages::pitch_levels(level);
-    let increments = stages::pitch_increments(rate, levels, envelope.scale);
+    let levels = envelope_stages::pitch_levels(level);
+    let increments = envelope_stages::pitch_increments(rate, levels, envelope.scale);
     set(envelope, increments, levels)
 }

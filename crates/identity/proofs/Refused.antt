@@ -11,12 +11,12 @@ use Rattle.numbers.specs.F32.{decimal}
 use Rattle.patch.specs.declared.Patch.{Patch}
 use Rattle.patch.specs.declared.ModulationParameters.{ModulationParameters}
 use Rattle.patch.specs.Packed.{patchFits, operatorsFit, stagesFit, modulationsFit, nameFits}
-use Rattle.limits.proofs.Within.{patch-fits}
+use Rattle.patch_limits.proofs.Within.{patch-fits}
 use Rattle.algorithms.specs.Opcode.{destination, adding, source, flagged}
 use Rattle.algorithms.specs.Chain.{lastOperator, unmet, ends, grown, reused, chained, originFrom, modulation, known, renders, callLength, rendered}
 use Rattle.algorithms.specs.Plan.{callOf, reading, ready, unready, extended, planFrom, counted, planned}
 use Rattle.algorithms.specs.Table.{six, tabled, rowOf, withRow, compiled}
-use Rattle.opcodes.specs.Opcodes.{sixOperators}
+use Rattle.algorithms_opcodes.specs.Opcodes.{sixOperators}
 use Rattle.envelope.specs.Envelope.{initialised}
 use Rattle.envelope.specs.Answers.{allStages}
 use Rattle.lfo.specs.declared.Lfo.{Lfo}
@@ -25,7 +25,7 @@ use Rattle.lfo.specs.Answers as lfo
 use Rattle.voice.specs.declared.Voice.{Voice}
 use Rattle.voice.specs.Voice.{voiceWith, freshVoice}
 use Rattle.voice.specs.Answers as voice
-use Rattle.limits.specs.Ranges.{sampleRateFits}
+use Rattle.patch_limits.specs.Ranges.{sampleRateFits}
 use Rattle.identity.specs.Identity.{readied, identityOf}
 
 -- the rows below n of the table are accepted

@@ -15,7 +15,7 @@ use Rattle.sine.specs.Table.{lutSine}
 use Rattle.sine.specs.Pairs.{sinePairs}
 use Rattle.units.specs.Tables.{lutPitchRatioHigh, lutPitchRatioLow}
 use Rattle.patch.specs.declared.Patch.{Patch}
-use Rattle.opcodes.specs.Opcodes.{sixOperators}
+use Rattle.algorithms_opcodes.specs.Opcodes.{sixOperators}
 use Rattle.lfo.specs.declared.Prepared as lfoPrepared
 use Rattle.lfo.specs.declared.Moved.{Moved}
 use Rattle.lfo.specs.declared.Read.{Read}

@@ -10,7 +10,7 @@ use Rattle.sine.specs.Table.{lutSine}
 use Rattle.sine.specs.Pairs.{sinePairs}
 use Rattle.units.specs.Tables.{lutPitchRatioHigh, lutPitchRatioLow}
 use Rattle.patch.specs.declared.Patch.{Patch}
-use Rattle.opcodes.specs.Opcodes.{sixOperators}
+use Rattle.algorithms_opcodes.specs.Opcodes.{sixOperators}
 use Rattle.lfo.specs.Answers as lfo
 use Rattle.voice.specs.declared.Voice.{Voice}
 use Rattle.voice.specs.Answers as voice

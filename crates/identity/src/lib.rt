@@ -83,7 +83,7 @@ fn first_number(a: u8, b: u8) -> u8
 fn prepare(patch: Patch) -> Ready
     ensures { λ r. ⌜ r ≡ readied patch ⌝ }
 {
-    let table = opcodes::opcodes_6_32();
+    let table = algorithms_opcodes::opcodes_6_32();
     let made = voice::init(6, 48000.0);
     let fresh = made.voice;
     let loaded = voice::set_patch(fresh, patch, &table);

@@ -16,12 +16,12 @@ use lib.Ieee.Positive.{positive, between, mul-mono, le→cross}
 use lib.Ieee.Scale.{finite}
 use borrow.Author.Tests.{eqb-true, eqb-false, ne-eqb}
 use Rattle.numbers.specs.F32.{_⊕_, _⊖_, _⊗_, _⊘_, decimal}
-use Rattle.conversions.specs.Units.{lfoFrequency, lfoSteps}
+use Rattle.dx_units_inner.specs.Units.{lfoFrequency, lfoSteps}
 use Rattle.patch.specs.declared.ModulationParameters.{ModulationParameters}
 use Rattle.lfo.specs.declared.Lfo.{Lfo}
 use Rattle.lfo.specs.declared.Moved.{Moved}
 use Rattle.lfo.specs.Lfo.{movedTo, valued, adjusted, restarted, wrapped, stepped, scrubbed, settled}
-use Rattle.limits.specs.Ranges.{sampleRateFits}
+use Rattle.patch_limits.specs.Ranges.{sampleRateFits}
 use Rattle.lfo.specs.Answers.{fromZero, stateFits, stepFits, scrubFits, notMoved, stepAnswer, scrubAnswer}
 use Rattle.lfo.specs.Played.{oneHzFits}
 use Rattle.lfo.proofs.Phases.{FromZero, plus, is-from-zero, under-from-zero, from-zero-le, from-zero-finite, Part, is-part, part-from-zero, part-below-one, parts-add, sum-wraps, product-at-least, below-power, when-finite, past-whole}

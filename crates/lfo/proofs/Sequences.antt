@@ -14,7 +14,7 @@ use Rattle.patch.specs.Packed.{modulationsFit}
 use Rattle.lfo.specs.declared.Lfo.{Lfo}
 use Rattle.lfo.specs.declared.Moved.{Moved}
 use Rattle.lfo.specs.Lfo.{freshLfo, adjusted, movedTo, valued, restarted, stepped, scrubbed, settled}
-use Rattle.limits.specs.Ranges.{sampleRateFits}
+use Rattle.patch_limits.specs.Ranges.{sampleRateFits}
 use Rattle.lfo.specs.Answers.{fromZero, stateFits, stepFits, scrubFits, prepared, notMoved, initAnswer, setAnswer, resetAnswer, stepAnswer, scrubAnswer, readAnswer, valueAnswer, delayRampAnswer, pitchModAnswer, ampModAnswer}
 use Rattle.lfo.specs.Played.{Call, Set, Reset, Step, Scrub, Value, DelayRamp, PitchMod, AmpMod, numberOf, answerTo, lfoAfter, stateAfter, Played, played, noneIsNine, Valid}
 use Rattle.lfo.proofs.Fields.{rate-fits}

@@ -7,7 +7,7 @@ use lib.Ieee.Scale.{finite}
 use Rattle.numbers.specs.F32.{_⊗_, _⊘_, decimal}
 use Rattle.patch.specs.declared.ModulationParameters.{ModulationParameters}
 use Rattle.patch.specs.Packed.{modulationsFit}
-use Rattle.limits.specs.Ranges.{sampleRateFits}
+use Rattle.patch_limits.specs.Ranges.{sampleRateFits}
 use Rattle.lfo.specs.declared.Lfo.{Lfo}
 use Rattle.lfo.specs.declared.Prepared.{Prepared}
 use Rattle.lfo.specs.declared.Moved.{Moved}

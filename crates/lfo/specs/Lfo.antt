@@ -7,7 +7,7 @@ use lib.IntN.{ℤ, pos, negsuc}
 use lib.ListN.{getD}
 use lib.Ieee.{Float, nan, binary32, lt, le, ofInt, toSigned}
 use Rattle.numbers.specs.F32.{_⊕_, _⊖_, _⊗_, _⊘_, decimal, asFloat}
-use Rattle.conversions.specs.Units.{lfoFrequency, lfoDelay, pitchModSensitivity}
+use Rattle.dx_units_inner.specs.Units.{lfoFrequency, lfoDelay, pitchModSensitivity}
 use Rattle.patch.specs.declared.ModulationParameters.{ModulationParameters}
 use Rattle.random.specs.declared.Drawn.{Drawn}
 use Rattle.random.specs.Random.{draw}

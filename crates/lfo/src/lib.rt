@@ -73,7 +73,7 @@ pub struct Read {
 pub fn init(sample_rate: f32) -> Prepared
     ensures { λ r. ⌜ r ≡ initAnswer «sample_rate» ⌝ }
 {
-    if limits::sample_rate_fits(sample_rate) {
+    if patch_limits::sample_rate_fits(sample_rate) {
         return Prepared {
             number: 0,
             lfo: fresh(1.0 / sample_rate, 0.1),
@@ -92,7 +92,7 @@ pub fn set(lfo: Lfo, modulations: patch::ModulationParameters) -> Prepared
     if !state_fits(lfo) {
         return Prepared { number: 9, lfo };
     }
-    if !limits::modulations_fit(modulations, 7) {
+    if !patch_limits::modulations_fit(modulations, 7) {
         return Prepared { number: 6, lfo };
     }
     Prepared {
@@ -303,13 +303,13 @@ fn adjust(lfo: Lfo, m: patch::ModulationParameters) -> Lfo
     ensures { λ r. ⌜ r ≡ adjusted lfo m ⌝ }
 {
     let one_hz = lfo.one_hz;
-    let delay = conversions::lfo_delay(m.delay);
-    let sensitivity = conversions::pitch_mod_sensitivity(m.pitch_mod_sensitivity);
+    let delay = dx_units_inner::lfo_delay(m.delay);
+    let sensitivity = dx_units_inner::pitch_mod_sensitivity(m.pitch_mod_sensitivity);
     let increments = [delay.first * one_hz, delay.second * one_hz];
     let waveform = waveform_from(m.waveform);
     Lfo {
         phase: lfo.phase,
-        frequency: conversions::lfo_frequency(m.rate) * one_hz,
+        frequency: dx_units_inner::lfo_frequency(m.rate) * one_hz,
         delay_phase: lfo.delay_phase,
         delay_increment: increments,
         value: lfo.value,

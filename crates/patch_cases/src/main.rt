@@ -54,16 +54,16 @@ fn patches() {
 fn packed() {
     let long = [0u8; 128];
     let mut p = patch::unpack(Patch::new(), &long).patch;
-    line(b"packing zeros: ", packer::pack(p).number as u64);
+    line(b"packing zeros: ", patch_packer::pack(p).number as u64);
     p.transpose = 48;
-    line(b"packing transpose 48: ", packer::pack(p).number as u64);
+    line(b"packing transpose 48: ", patch_packer::pack(p).number as u64);
     p.transpose = 49;
-    line(b"packing transpose 49: ", packer::pack(p).number as u64);
+    line(b"packing transpose 49: ", patch_packer::pack(p).number as u64);
     p.transpose = 0;
     p.active_operators = 62;
     line(
         b"packing active operators 62: ",
-        packer::pack(p).number as u64,
+        patch_packer::pack(p).number as u64,
     );
 }
 
@@ -74,12 +74,12 @@ fn sensitivity() {
     let m = p.modulations;
     line(b"sensitivity of byte 255: ", m.pitch_mod_sensitivity as u64);
     line(b"waveform of byte 255: ", m.waveform as u64);
-    line(b"check of that patch: ", limits::check(p) as u64);
+    line(b"check of that patch: ", patch_limits::check(p) as u64);
     line(
         b"modulations fit 15: ",
-        limits::modulations_fit(m, 15) as u64,
+        patch_limits::modulations_fit(m, 15) as u64,
     );
-    line(b"modulations fit 7: ", limits::modulations_fit(m, 7) as u64);
+    line(b"modulations fit 7: ", patch_limits::modulations_fit(m, 7) as u64);
 }
 
 fn level() {
@@ -88,7 +88,7 @@ fn level() {
     let mut o = p.op[0];
     o.level = 100;
     p.op[0] = o;
-    line(b"level 100: ", limits::check(p) as u64);
+    line(b"level 100: ", patch_limits::check(p) as u64);
 }
 
 fn checksums() {

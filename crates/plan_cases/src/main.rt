@@ -26,14 +26,14 @@ fn four() {
     show(&[0x71, 0x14, 0x01, 0x14]);
     show(&[0x31, 0x11, 0x54, 0x04]);
     show(&[0x11, 0x01, 0x11, 0x14]);
-    let table = opcodes::opcodes_4_8();
+    let table = algorithms_opcodes::opcodes_4_8();
     rows(4, &table);
 }
 
 // Six operators: a chain of three, and every algorithm.
 fn six() {
     show(&[0x31, 0x11, 0x54, 0x01, 0x11, 0x14]);
-    let table = opcodes::opcodes_6_32();
+    let table = algorithms_opcodes::opcodes_6_32();
     rows(6, &table);
 }
 

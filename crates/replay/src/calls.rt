@@ -11,30 +11,30 @@ pub struct Answered {
 // The length of the call at the script's start, by its entry; 0 for no entry.
 fn call_length(entry: u8, script: &[u8]) -> usize {
     match entry {
-        0x20..=0x2f => answer_patches::length(entry, script),
-        0x50..=0x57 => answer_rows::length(entry, script),
-        0x58..=0x5f => answer_envelopes::length(entry),
-        0x60..=0x6f => answer_lfos::length(entry),
-        0x80..=0x8f => answer_voices::length(entry, script),
-        _ => answer_units::length(entry),
+        0x20..=0x2f => judge_patches::length(entry, script),
+        0x50..=0x57 => judge_rows::length(entry, script),
+        0x58..=0x5f => judge_envelopes::length(entry),
+        0x60..=0x6f => judge_lfos::length(entry),
+        0x80..=0x8f => judge_voices::length(entry, script),
+        _ => judge_units::length(entry),
     }
 }
 
 // Writes what the call answers from place 5 on, and answers the place behind it.
 fn body(entry: u8, script: &[u8], registers: &mut [u8], out: &mut [u8]) -> usize {
     match entry {
-        0x20..=0x2f => answer_patches::answer(entry, script, registers, out),
-        0x50..=0x57 => answer_rows::answer(entry, script, out),
-        0x58..=0x5f => answer_envelopes::answer(entry, script, registers, out),
-        0x60..=0x6f => answer_lfos::answer(entry, script, registers, out),
-        0x80..=0x8f => answer_voices::answer(entry, script, registers, out),
-        _ => answer_units::answer(entry, script, out),
+        0x20..=0x2f => judge_patches::answer(entry, script, registers, out),
+        0x50..=0x57 => judge_rows::answer(entry, script, out),
+        0x58..=0x5f => judge_envelopes::answer(entry, script, registers, out),
+        0x60..=0x6f => judge_lfos::answer(entry, script, registers, out),
+        0x80..=0x8f => judge_voices::answer(entry, script, registers, out),
+        _ => judge_units::answer(entry, script, out),
     }
 }
 
 // Writes the answer of the call at the script's start to the start of out.
 pub fn answer(script: &[u8], registers: &mut [u8], out: &mut [u8]) -> Answered {
-    let entry = wire::byte(script, 0);
+    let entry = judge_wire::byte(script, 0);
     let length = call_length(entry, script);
     if script.len() < length || length == 0 {
         return Answered {
@@ -44,7 +44,7 @@ pub fn answer(script: &[u8], registers: &mut [u8], out: &mut [u8]) -> Answered {
         };
     }
     let end = body(entry, script, registers, out);
-    wire::put_head(out, entry, end);
+    judge_wire::put_head(out, entry, end);
     Answered {
         read: length,
         wrote: end,

@@ -106,7 +106,7 @@ fn read_behind(script: &mut [u8], held: usize) -> usize
 // read and either nothing is left or what is left is no whole call.
 fn is_over(script: &[u8], done: Progress, more: bool, end: usize) -> bool {
     if done.unknown {
-        say_unknown(wire::byte(script, done.at), done.calls);
+        say_unknown(judge_wire::byte(script, done.at), done.calls);
         return true;
     }
     if more {
@@ -125,14 +125,14 @@ fn is_over(script: &[u8], done: Progress, more: bool, end: usize) -> bool {
 
 // Writes the first bytes of the answers, and says whether they could be written.
 fn send(answers: &[u8], put: usize) -> bool {
-    io::write_all(1, wire::start(answers, put))
+    io::write_all(1, judge_wire::start(answers, put))
 }
 
 // Reads what there is, answers its whole calls and keeps the rest.
 fn turn(script: &mut [u8], registers: &mut [u8], answers: &mut [u8], run: Run) -> Run {
     let held = least(run.held, script.len());
     let end = read_behind(script, held);
-    let done = answer_all(wire::start(script, end), registers, answers, run.calls);
+    let done = answer_all(judge_wire::start(script, end), registers, answers, run.calls);
     let sent = send(answers, done.put);
     let over = is_over(script, done, held < end, end);
     let at = least(done.at, end);
@@ -163,7 +163,7 @@ fn replay(script: &mut [u8], registers: &mut [u8], answers: &mut [u8]) {
 fn main() {
     let mut script = io::large_buffer();
     let mut answers = io::large_buffer();
-    let mut registers = [0u8; wire::REGISTERS];
-    wire::put_word(&mut registers, wire::GENERATOR as usize, 0x21);
+    let mut registers = [0u8; judge_wire::REGISTERS];
+    judge_wire::put_word(&mut registers, judge_wire::GENERATOR as usize, 0x21);
     replay(&mut script, &mut registers, &mut answers);
 }

@@ -6,7 +6,7 @@ use lib.Dec.{eqb}
 use lib.Ieee.{Float}
 use Rattle.patch.specs.declared.Patch.{Patch}
 use Rattle.patch.specs.Packed.{patchFits}
-use Rattle.limits.specs.Ranges.{sampleRateFits}
+use Rattle.patch_limits.specs.Ranges.{sampleRateFits}
 use Rattle.algorithms.specs.declared.Plan.{Plan}
 use Rattle.algorithms.specs.declared.Compiled.{Compiled}
 use Rattle.algorithms.specs.Plan.{counted, isPlanOf}

@@ -4,7 +4,7 @@ use mathlib.Core.Bool.{Bool, true, false}
 use mathlib.Core.List.{List, [], _∷_}
 use lib.Ieee.{Float}
 use Rattle.numbers.specs.F32.{_⊗_, _⊘_, decimal}
-use Rattle.conversions.specs.declared.Ratio.the-variants.{Note}
+use Rattle.dx_units_inner.specs.declared.Ratio.the-variants.{Note}
 use Rattle.patch.specs.declared.Patch.{Patch}
 use Rattle.patch.specs.Form.{zeroPatch}
 use Rattle.algorithms.specs.declared.Plan.{Plan}

@@ -7,7 +7,7 @@ ghost use Rattle.voice.specs.Voice.{voiceWith, withPatch};
 ghost use Rattle.voice.specs.Answers.{patchSound, stateFits, initAnswer, loaded, setPatchAnswer, takePatchAnswer};
 use algorithms::Compiled;
 use algorithms::Plan;
-use conversions::Ratio;
+use dx_units_inner::Ratio;
 use envelope::Envelope;
 use operator::Feedback;
 use operator::Operator;
@@ -99,7 +99,7 @@ fn stages_fit(e: [Envelope; 6]) -> bool
 fn patch_sound(operators: usize, patch: Patch, row: [u8; 6], plan: Plan) -> bool
     ensures { λ r. ⌜ r ≡ patchSound operators patch row plan ⌝ }
 {
-    if limits::check(patch) != 0 {
+    if patch_limits::check(patch) != 0 {
         return false;
     }
     algorithms::is_plan_of(operators, row, plan)
@@ -139,7 +139,7 @@ pub fn init(operators: usize, sample_rate: f32) -> Prepared
             voice: voice_with(0, 0.0, 0.0, 0.0),
         };
     }
-    if !limits::sample_rate_fits(sample_rate) {
+    if !patch_limits::sample_rate_fits(sample_rate) {
         return Prepared {
             number: 5,
             voice: voice_with(0, 0.0, 0.0, 0.0),
@@ -198,7 +198,7 @@ pub fn set_patch(v: Voice, patch: Patch, table: &[u8]) -> Loaded
             voice: v,
         };
     }
-    if limits::check(patch) != 0 {
+    if patch_limits::check(patch) != 0 {
         return Loaded {
             number: 6,
             at: 0,

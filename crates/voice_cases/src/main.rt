@@ -26,7 +26,7 @@ fn parameters(note: f32) -> VoiceParameters {
 // A voice of six operators that has the patch of zeros.
 fn dirty() -> Voice {
     let zeros = [0u8; 128];
-    let table = opcodes::opcodes_6_32();
+    let table = algorithms_opcodes::opcodes_6_32();
     let read = patch::unpack(Patch::new(), &zeros);
     let p = read.patch;
     let started = voice::init(6, 48000.0);

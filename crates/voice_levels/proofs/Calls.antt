@@ -7,7 +7,7 @@ use native.Mathlib.Numerals.{add-one}
 use lib.ListN.{getD, set}
 use lib.Ieee.{Float, nan}
 use Rattle.numbers.specs.F32.{_⊕_, _⊗_}
-use Rattle.conversions.specs.Units.{rateScaling, stepFor}
+use Rattle.dx_units_inner.specs.Units.{rateScaling, stepFor}
 use Rattle.envelope.specs.declared.Envelope.{Envelope}
 use Rattle.envelope.specs.Envelope.{movedTo}
 use Rattle.patch.specs.declared.Operator.{Operator}

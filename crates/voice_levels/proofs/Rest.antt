@@ -12,7 +12,7 @@ use lib.Ieee.Scale.{round-same}
 use Rattle.numbers.specs.F32.{_⊖_, _⊗_, decimal, minusDecimal}
 use Rattle.numbers.specs.Words.{differenceSigned}
 use Rattle.numbers.proofs.Views.{no}
-use Rattle.powers.specs.Pow.{wholeBelow, mantissaBits, pow2Fast}
+use Rattle.dx_units_power.specs.Pow.{wholeBelow, mantissaBits, pow2Fast}
 use Rattle.voice_levels.specs.Levels.{levelModOf}
 
 -- equal to -1, by its two tests

@@ -8,10 +8,10 @@ use lib.Ieee.{Float, nan, neg}
 use Rattle.numbers.specs.F32.{_⊕_, _⊖_, _⊗_, decimal, minusDecimal, asFloat}
 use Rattle.numbers.specs.Extremes.{minimum, magnitude}
 use Rattle.units.specs.Ratio.{ratioOf}
-use Rattle.powers.specs.Pow.{pow2Fast}
-use Rattle.conversions.specs.Units.{rateScaling, keyboardScaling, ampModSensitivity, stepFor}
-use Rattle.conversions.specs.declared.Ratio.{Ratio}
-use Rattle.conversions.specs.declared.Ratio.the-variants.{Note, Hertz}
+use Rattle.dx_units_power.specs.Pow.{pow2Fast}
+use Rattle.dx_units_inner.specs.Units.{rateScaling, keyboardScaling, ampModSensitivity, stepFor}
+use Rattle.dx_units_inner.specs.declared.Ratio.{Ratio}
+use Rattle.dx_units_inner.specs.declared.Ratio.the-variants.{Note, Hertz}
 use Rattle.envelope.specs.declared.Envelope.{Envelope}
 use Rattle.envelope.specs.Envelope.{movedTo, rendered, currentValue}
 use Rattle.envelope.specs.Scrub.{scrubbed}

@@ -7,7 +7,7 @@ ghost use Rattle.envelope.specs.Answers.{allStages};
 ghost use Rattle.patch.specs.Packed.{operatorsFit};
 ghost use Rattle.voice_levels.specs.Levels.{timingFor, followed, noteFrequency, frequencyOf, scalingOf, levelModOf, amplitudeOf};
 ghost use Rattle.voice_levels.specs.Levels.{brightnessOf, taken, raised, raisedTo, raisedBy, soundedTo, leveledTo};
-use conversions::Ratio;
+use dx_units_inner::Ratio;
 use envelope::Envelope;
 use voice_setup::Tuned;
 
@@ -76,9 +76,9 @@ pub fn timing_for(
     ensures { λ r. ⌜ r ≡ timingFor sustain gate «sample_rate» «envelope_control» samples ⌝ }
 {
     let envelope_rate = numbers::u32_as_f32(samples);
-    let ad_scale = powers::pow_2_fast((0.5 - envelope_control) * 8.0, 1);
+    let ad_scale = dx_units_power::pow_2_fast((0.5 - envelope_control) * 8.0, 1);
     let release = -numbers::f32_abs(envelope_control - 0.3) * 8.0;
-    let release_scale = powers::pow_2_fast(release, 1);
+    let release_scale = dx_units_power::pow_2_fast(release, 1);
     let gate_duration = 1.5 * sample_rate;
     let envelope_sample = gate_duration * envelope_control;
     Timing {
@@ -175,7 +175,7 @@ fn scaling(g: Scene, op: patch::Operator, level_headroom: f32, opcode: u8) -> f3
     ensures { λ r. ⌜ r ≡ scalingOf g op «level_headroom» opcode ⌝ }
 {
     let k = op.keyboard_scaling;
-    let kb_scaling = conversions::keyboard_scaling(
+    let kb_scaling = dx_units_inner::keyboard_scaling(
         g.note,
         k.left_depth,
         k.right_depth,
@@ -195,7 +195,7 @@ fn level_mod(log_level_mod: f32) -> f32
     if log_level_mod == -1.0 {
         return LEVEL_MOD_AT_REST;
     }
-    1.0 - powers::pow_2_fast(6.4 * log_level_mod, 2)
+    1.0 - dx_units_power::pow_2_fast(6.4 * log_level_mod, 2)
 }
 
 // The amplitude of a level, with the amplitude modulation.
@@ -203,8 +203,8 @@ fn amplitude(amp_mod: f32, sensitivity: u8, level: f32) -> f32
     requires { ⌜ sensitivity ≤ 3 ⌝ }
     ensures { λ r. ⌜ r ≡ amplitudeOf «amp_mod» sensitivity level ⌝ }
 {
-    let log_level_mod = conversions::amp_mod_sensitivity(sensitivity) * amp_mod - 1.0;
-    powers::pow_2_fast(-14.0 + level * level_mod(log_level_mod), 2)
+    let log_level_mod = dx_units_inner::amp_mod_sensitivity(sensitivity) * amp_mod - 1.0;
+    dx_units_power::pow_2_fast(-14.0 + level * level_mod(log_level_mod), 2)
 }
 
 // An operator's envelope, step and level.
@@ -219,9 +219,9 @@ fn raise_operator(
     requires { ⌜ e .stage ≤ 3 ⌝ }
     ensures { λ r. ⌜ raisedBy e r ≡ raised g op tuned «level_headroom» opcode e ⌝ }
 {
-    let step = conversions::frequency_step(frequency(g, tuned));
+    let step = dx_units_inner::frequency_step(frequency(g, tuned));
     let t = g.timing;
-    let rate = t.envelope_rate * conversions::rate_scaling(g.note, op.rate_scaling);
+    let rate = t.envelope_rate * dx_units_inner::rate_scaling(g.note, op.rate_scaling);
     let p = place(t, true, rate, e);
     let level = p.value + scaling(g, op, level_headroom, opcode);
     Raised {

@@ -12,16 +12,16 @@ use lib.Ieee.Fits.{and-l, and-r}
 use Rattle.numbers.specs.F32.{_⊕_}
 use Rattle.sine.specs.Pairs.{sinePairs}
 use Rattle.units.specs.Tables.{lutPitchRatioHigh, lutPitchRatioLow}
-use Rattle.conversions.specs.Units.{normalizedVelocity}
+use Rattle.dx_units_inner.specs.Units.{normalizedVelocity}
 use Rattle.patch.specs.declared.Patch.{Patch}
 use Rattle.patch.specs.Packed.{patchFits, operatorsFit, stagesFit, modulationsFit, nameFits}
-use Rattle.limits.proofs.Within.{patch-fits}
+use Rattle.patch_limits.proofs.Within.{patch-fits}
 use Rattle.algorithms.specs.Plan.{counted}
 use Rattle.envelope.specs.declared.Envelope.{Envelope}
 use Rattle.envelope.specs.Set.{pitchSet}
 use Rattle.operator.specs.declared.Operator.{Operator}
-use Rattle.block.specs.declared.Operators.{Operators}
-use Rattle.block.specs.Calls.{ran}
+use Rattle.voice_block.specs.declared.Operators.{Operators}
+use Rattle.voice_block.specs.Calls.{ran}
 use Rattle.voice_setup.specs.declared.Setup.{Setup}
 use Rattle.voice_setup.specs.Setup.{setUpTo}
 use Rattle.voice_levels.specs.declared.Timing.{Timing}

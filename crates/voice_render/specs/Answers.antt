@@ -6,7 +6,7 @@ use lib.Dec.{eqb, leb}
 use lib.ListN.{length}
 use lib.Ieee.{Float}
 use Rattle.numbers.specs.F32.{decimal, minusDecimal}
-use Rattle.limits.specs.Ranges.{between}
+use Rattle.patch_limits.specs.Ranges.{between}
 use Rattle.voice.specs.declared.Voice.{Voice}
 use Rattle.voice.specs.Answers.{stateFits}
 use Rattle.voice_render.specs.declared.VoiceParameters.{VoiceParameters}

@@ -6,10 +6,10 @@ use lib.Dec.{eqb}
 use lib.ListN.{length, getD}
 use lib.Ieee.{Float}
 use Rattle.numbers.specs.F32.{_⊕_}
-use Rattle.conversions.specs.Units.{normalizedVelocity}
+use Rattle.dx_units_inner.specs.Units.{normalizedVelocity}
 use Rattle.operator.specs.declared.Operator.{Operator}
-use Rattle.block.specs.declared.Operators.{Operators}
-use Rattle.block.specs.Calls.{noOperator, Ran, ran}
+use Rattle.voice_block.specs.declared.Operators.{Operators}
+use Rattle.voice_block.specs.Calls.{noOperator, Ran, ran}
 use Rattle.voice_levels.specs.declared.Levels.{Levels}
 use Rattle.voice_levels.specs.Levels.{timingFor, followed, noteFrequency, leveledTo}
 use Rattle.voice.specs.declared.Voice.{Voice}

@@ -12,7 +12,7 @@ ghost use Rattle.voice.specs.Answers.{stateFits};
 ghost use Rattle.voice_render.specs.Setup.{withSetup, setUp};
 ghost use Rattle.voice_render.specs.Block.{noteOn, struck, begun, restarted, entering, after, sounded};
 ghost use Rattle.voice_render.specs.Answers.{blockFits, parametersFit, renderAnswer};
-use block::Operators;
+use voice_block::Operators;
 use envelope::Envelope;
 use operator::Operator;
 use voice::Voice;
@@ -60,12 +60,12 @@ fn block_fits(size: usize) -> bool
 fn parameters_fit(p: VoiceParameters) -> bool
     ensures { λ r. ⌜ r ≡ parametersFit p ⌝ }
 {
-    limits::between(0.0, 127.0, p.note)
-        & limits::between(0.0, 1.0, p.velocity)
-        & limits::between(0.0, 1.0, p.brightness)
-        & limits::between(0.0, 1.0, p.envelope_control)
-        & limits::between(-4.0, 4.0, p.pitch_mod)
-        & limits::between(0.0, 1.0, p.amp_mod)
+    patch_limits::between(0.0, 127.0, p.note)
+        & patch_limits::between(0.0, 1.0, p.velocity)
+        & patch_limits::between(0.0, 1.0, p.brightness)
+        & patch_limits::between(0.0, 1.0, p.envelope_control)
+        & patch_limits::between(-4.0, 4.0, p.pitch_mod)
+        & patch_limits::between(0.0, 1.0, p.amp_mod)
 }
 
 fn with_setup(v: Voice, pitch_envelope: Envelope, s: Setup) -> Voice
@@ -123,7 +123,7 @@ fn strike(v: Voice, p: VoiceParameters) -> Struck
     if note_on(v, p) | p.sustain {
         return Struck {
             note: p.note,
-            normalized_velocity: conversions::normalize_velocity(p.velocity),
+            normalized_velocity: dx_units_inner::normalize_velocity(p.velocity),
         };
     }
     Struck {
@@ -236,7 +236,7 @@ fn sound(
     let plan = v.plan;
     let steps = l.steps;
     let amplitudes = l.amplitudes;
-    let os = block::run_plan(lut, plan, before, steps, amplitudes, patch.feedback, block);
+    let os = voice_block::run_plan(lut, plan, before, steps, amplitudes, patch.feedback, block);
     leave(v, p, b, l, os)
 }
 

@@ -10,8 +10,8 @@ use lib.Dec.{T, eqb, leb, leb→le}
 use lib.ListN.{length, getD}
 use lib.Ieee.{Float}
 use lib.Ieee.Fits.{and-l, and-r}
-use Rattle.conversions.specs.declared.Ratio.{Ratio}
-use Rattle.conversions.specs.Units.{operatorLevel, frequencyRatio}
+use Rattle.dx_units_inner.specs.declared.Ratio.{Ratio}
+use Rattle.dx_units_inner.specs.Units.{operatorLevel, frequencyRatio}
 use Rattle.envelope.specs.declared.Envelope.{Envelope}
 use Rattle.envelope.specs.Set.{operatorSet}
 use Rattle.patch.specs.declared.Operator.{Operator}

@@ -4,7 +4,7 @@ use mathlib.Core.List.{List, []}
 use lib.ListN.{getD, set}
 use lib.Ieee.{Float, nan}
 use Rattle.numbers.specs.F32.{asFloat}
-use Rattle.conversions.specs.Units.{operatorLevel, frequencyRatio}
+use Rattle.dx_units_inner.specs.Units.{operatorLevel, frequencyRatio}
 use Rattle.envelope.specs.declared.Envelope.{Envelope}
 use Rattle.envelope.specs.Set.{operatorSet}
 use Rattle.patch.specs.declared.Operator.{Operator}

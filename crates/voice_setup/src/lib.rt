@@ -5,7 +5,7 @@ ghost use Prim.Native.Nat.{_≤_};
 ghost use lib.Dec.{T};
 ghost use Rattle.patch.specs.Packed.{operatorFits, operatorsFit};
 ghost use Rattle.voice_setup.specs.Setup.{headroomOf, operatorSetUp, setUpTo};
-use conversions::Ratio;
+use dx_units_inner::Ratio;
 use envelope::Envelope;
 
 // A frequency ratio, as an element of an array.
@@ -45,13 +45,13 @@ fn operator_setup(
     requires { ⌜ T (operatorFits op) ⌝ }
     ensures { λ r. ⌜ r ≡ operatorSetUp (now (high .entry)) (now (low .entry)) e op ⌝ }
 {
-    let level = conversions::operator_level(op.level);
+    let level = dx_units_inner::operator_level(op.level);
     let stages = op.envelope;
     let rate = stages.rate;
     let levels = stages.level;
     let envelope = envelope::inner::operator_set(e, rate, levels, level);
     let level_headroom = headroom(level);
-    let ratio = conversions::frequency_ratio(high, low, op.mode, op.coarse, op.fine, op.detune);
+    let ratio = dx_units_inner::frequency_ratio(high, low, op.mode, op.coarse, op.fine, op.detune);
     OperatorSetup {
         envelope,
         level_headroom,

@@ -2,8 +2,8 @@
 use native.Mathlib.Omega.{arith}
 use borrow.Author.Needs.{needs}
 use mathlib.Core.Path.{sym, subst}
-use Rattle.block.specs.Calls.{Playable}
-use Rattle.block.proofs.Accepted.{accepted-playable}
+use Rattle.voice_block.specs.Calls.{Playable}
+use Rattle.voice_block.proofs.Accepted.{accepted-playable}
 use Rattle.voice.proofs.States.{state-fits, stored, clean-has}
 use Rattle.voice_render.proofs.Blocks.{count-at-most-6, operators-of, block-small, block-whole, sounded-of}
 use Rattle.voice_render.proofs.sound.Statement.{statement}

@@ -1,7 +1,7 @@
 -- `voice_setup::operator_setup` meets its contract.
 -- Assumes nothing.
 use borrow.Author.Needs.{needs}
-use Rattle.conversions.proofs.Conversions.{level-at-most-127}
+use Rattle.dx_units_inner.proofs.Conversions.{level-at-most-127}
 use Rattle.voice_setup.proofs.Operators.{limits, set-up}
 use Rattle.voice_setup.proofs.operator_setup.Statement.{statement}
 use Rattle.voice_setup.proofs.operator_setup.Tie as tie

@@ -2,7 +2,7 @@
 use borrow.Author.Tests.{not-true, not-false}
 use lib.Ieee.{round, ofBits}
 use Rattle.numbers.specs.F32.{decimal}
-use Rattle.stages.specs.Stages.{jump}
+use Rattle.envelope_stages.specs.Stages.{jump}
 use Rattle.envelope.specs.Envelope.{segment, bent}
 use borrow.Author.Needs.{needs}
 use Rattle.envelope.proofs.inner.segment.Statement.{statement}

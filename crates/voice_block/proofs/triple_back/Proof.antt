@@ -1,0 +1,48 @@
+-- `voice_block::triple_back` meets its contract.
+-- Assumes nothing.
+use mathlib.Core.Path.{_∙_}
+use borrow.Author.Needs.{needs}
+use Rattle.voice_block.proofs.State.{triple-back}
+use Rattle.voice_block.proofs.triple_back.Statement.{statement}
+use Rattle.voice_block.proofs.triple_back.Tie as tie
+
+put-back-requires : tie.Need-put-back-requires
+put-back-requires c κs = search needs
+
+add-j : tie.Need-add-j
+add-j c = search needs
+
+put-back-requires-2 : tie.Need-put-back-requires-2
+put-back-requires-2 c κs = search needs
+
+add-k : tie.Need-add-k
+add-k c = search needs
+
+put-back-requires-3 : tie.Need-put-back-requires-3
+put-back-requires-3 c κs = search needs
+
+put-feedback-requires : tie.Need-put-feedback-requires
+put-feedback-requires c κs = search needs
+
+returns : tie.Need-returns
+returns c =
+    let put = c .before .before .before .before .before .before .before .before .before .before .before .put-back .ensures in
+    let next = c .before .before .before .before .before .before .before .put-back2 .ensures in
+    let last = c .before .before .before .put-back3 .ensures in
+    let fed = c .put-feedback .ensures in
+    let lent = c .before .before .before .before .before .before .before .before .before .before .before .before .before .before .before .pre .1 in (
+      triple-back _ _ _ _ _ _ _ _ _ _ _ _ _ _ _ (put .0) (next .0) (last .0) (fed .0),
+      record { six = last .1 ∙ next .1 ∙ put .1 ∙ lent .six; as-many = last .2 ∙ next .2 ∙ put .2 ∙ lent .as-many; two = fed .1 },
+    )
+
+pub triple-back-spec : {M : Type 1} → statement M
+triple-back-spec =
+    tie.close
+    (tie.spec
+    put-back-requires
+    add-j
+    put-back-requires-2
+    add-k
+    put-back-requires-3
+    put-feedback-requires
+    returns)
