@@ -297,7 +297,12 @@ pub fn operator_set(envelope: Envelope, rate: [u8; 4], level: [u8; 4], global_le
     ensures { λ r. ⌜ r ≡ operatorSet envelope rate level «global_level» ⌝ }
 {
     let levels = envelope_stages::operator_levels(level, global_level);
-    let increments = envelope_stages::operator_increments(rate, levels, level[0] == 0, envelope.scale);
+    let increments = envelope_stages::operator_increments(
+        rate,
+        levels,
+        level[0] == 0,
+        envelope.scale,
+    );
     set(envelope, increments, levels)
 }
 

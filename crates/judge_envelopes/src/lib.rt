@@ -25,7 +25,10 @@ pub fn answer(entry: u8, s: &[u8], registers: &mut [u8], out: &mut [u8]) -> usiz
         0x59 => store(registers, envelope::init(judge_wire::float(s, 1)), out, 5),
         0x5a | 0x5b => set(entry, s, registers, out),
         0x5c => render(s, registers, out),
-        _ => put_value(out, valued(entry, s, envelope(registers, judge_wire::ENVELOPE))),
+        _ => put_value(
+            out,
+            valued(entry, s, envelope(registers, judge_wire::ENVELOPE)),
+        ),
     }
 }
 
@@ -77,7 +80,12 @@ fn rendered(s: &[u8], envelope: Envelope) -> Rendered {
 fn valued(entry: u8, s: &[u8], envelope: Envelope) -> Valued {
     let reshape = judge_wire::byte(s, 1) != 0;
     if entry == 0x5d {
-        return envelope::render_at_sample(envelope, reshape, judge_wire::float(s, 2), judge_wire::float(s, 6));
+        return envelope::render_at_sample(
+            envelope,
+            reshape,
+            judge_wire::float(s, 2),
+            judge_wire::float(s, 6),
+        );
     }
     let stage = judge_wire::word(s, 2) as usize;
     envelope::value(

@@ -25,7 +25,11 @@ pub fn answer(entry: u8, s: &[u8], registers: &mut [u8], out: &mut [u8]) -> usiz
         0x20 => store(registers, patch(s, 1), out, 5),
         0x21 => unpack(s, registers, out),
         0x22 => pack(registers, out),
-        0x23 => judge_wire::put_byte(out, 5, patch_limits::check(patch(registers, judge_wire::PATCH))),
+        0x23 => judge_wire::put_byte(
+            out,
+            5,
+            patch_limits::check(patch(registers, judge_wire::PATCH)),
+        ),
         0x29 => modulations_fit(s, out),
         _ => answer_bank(entry, s, out),
     }

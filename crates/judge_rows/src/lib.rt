@@ -29,7 +29,11 @@ pub fn answer(entry: u8, s: &[u8], out: &mut [u8]) -> usize {
             5,
             algorithms::six_bytes(judge_wire::part(s, 3, judge_wire::half(s, 1))),
         ),
-        _ => judge_wire::put_byte(out, 5, opcode(judge_wire::byte(s, 1), judge_wire::word(s, 2))),
+        _ => judge_wire::put_byte(
+            out,
+            5,
+            opcode(judge_wire::byte(s, 1), judge_wire::word(s, 2)),
+        ),
     }
 }
 

@@ -89,7 +89,11 @@ fn loaded(entry: u8, s: &[u8], v: Voice) -> Loaded {
             judge_patches::patch(s, 1),
             judge_wire::part(s, 159, judge_wire::half(s, 157)),
         ),
-        0x82 => set_stored(v, unpacked(judge_wire::part(s, 1, 128)), judge_wire::byte(s, 129)),
+        0x82 => set_stored(
+            v,
+            unpacked(judge_wire::part(s, 1, 128)),
+            judge_wire::byte(s, 129),
+        ),
         _ => voice::set_patch(
             v,
             unpacked(judge_wire::part(s, 1, 128)),
@@ -113,7 +117,11 @@ fn set_stored(v: Voice, p: Patch, which: u8) -> Loaded {
     match operators {
         4 => voice::set_patch(v, p, &algorithms_opcodes::opcodes_4_8()),
         6 => voice::set_patch(v, p, &algorithms_opcodes::opcodes_6_32()),
-        _ => voice::set_patch(v, p, judge_wire::start(&algorithms_opcodes::opcodes_6_32(), 0)),
+        _ => voice::set_patch(
+            v,
+            p,
+            judge_wire::start(&algorithms_opcodes::opcodes_6_32(), 0),
+        ),
     }
 }
 

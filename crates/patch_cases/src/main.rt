@@ -56,9 +56,15 @@ fn packed() {
     let mut p = patch::unpack(Patch::new(), &long).patch;
     line(b"packing zeros: ", patch_packer::pack(p).number as u64);
     p.transpose = 48;
-    line(b"packing transpose 48: ", patch_packer::pack(p).number as u64);
+    line(
+        b"packing transpose 48: ",
+        patch_packer::pack(p).number as u64,
+    );
     p.transpose = 49;
-    line(b"packing transpose 49: ", patch_packer::pack(p).number as u64);
+    line(
+        b"packing transpose 49: ",
+        patch_packer::pack(p).number as u64,
+    );
     p.transpose = 0;
     p.active_operators = 62;
     line(
@@ -79,7 +85,10 @@ fn sensitivity() {
         b"modulations fit 15: ",
         patch_limits::modulations_fit(m, 15) as u64,
     );
-    line(b"modulations fit 7: ", patch_limits::modulations_fit(m, 7) as u64);
+    line(
+        b"modulations fit 7: ",
+        patch_limits::modulations_fit(m, 7) as u64,
+    );
 }
 
 fn level() {

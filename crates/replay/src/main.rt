@@ -132,7 +132,12 @@ fn send(answers: &[u8], put: usize) -> bool {
 fn turn(script: &mut [u8], registers: &mut [u8], answers: &mut [u8], run: Run) -> Run {
     let held = least(run.held, script.len());
     let end = read_behind(script, held);
-    let done = answer_all(judge_wire::start(script, end), registers, answers, run.calls);
+    let done = answer_all(
+        judge_wire::start(script, end),
+        registers,
+        answers,
+        run.calls,
+    );
     let sent = send(answers, done.put);
     let over = is_over(script, done, held < end, end);
     let at = least(done.at, end);

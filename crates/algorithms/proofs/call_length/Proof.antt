@@ -12,7 +12,9 @@ source-of-requires : tie.Need-source-of-requires
 source-of-requires c κs = search needs
 
 returns : tie.Need-returns
-returns c = dry-at _ _ _ (c .before .before .before .pre) _ (c .before .source-of .ensures) (c .if1 .taken)
+returns c =
+    let at-pre = c .before .before .before in
+    dry-at _ _ _ (at-pre .pre) _ (c .before .source-of .ensures) (c .if1 .taken)
 
 returns-2 : tie.Need-returns-2
 returns-2 c = few-one _ _ (c .if2 .taken)
@@ -22,44 +24,66 @@ chain-requires c κs = search needs
 
 returns-3 : tie.Need-returns-3
 returns-3 c =
+    let at-if1 = c .before .before .before in
     let at = c .before .before .before .before in
-    long-at _ _ _ (at .before .before .pre) _ _ (c .before .before .if2 .left) (at .source-of .ensures) (c .before .before .before .if1 .left) (c .before .chain .ensures) (c .if3 .taken)
+    long-at _ _ _ (at .before .before .pre) _ _ (c .before .before .if2 .left) (at .source-of .ensures)
+    (at-if1 .if1 .left) (c .before .chain .ensures) (c .if3 .taken)
 
 add-last : tie.Need-add-last
 add-last c = search needs
 
 sub-last : tie.Need-sub-last
-sub-last c = omega (arith, chained-at _ _ _ (c .before .before .before .before .before .before .pre) _ (c .before .chain .ensures))
+sub-last c =
+    let at-pre = c .before .before .before .before .before .before in
+    omega (arith, chained-at _ _ _ (at-pre .pre) _ (c .before .chain .ensures))
 
 element-copy-out-is-adding : tie.Need-element-copy-out-is-adding
-element-copy-out-is-adding c = omega (arith, chained-at _ _ _ (c .before .before .before .before .before .before .pre) _ (c .before .chain .ensures))
+element-copy-out-is-adding c =
+    let at-pre = c .before .before .before .before .before .before in
+    omega (arith, chained-at _ _ _ (at-pre .pre) _ (c .before .chain .ensures))
 
 is-adding-requires : tie.Need-is-adding-requires
 is-adding-requires c κs = search needs
 
 element-copy-out-is-flagged : tie.Need-element-copy-out-is-flagged
-element-copy-out-is-flagged c = omega (arith, chained-at _ _ _ (c .before .before .before .before .before .before .before .before .before .pre) _ (c .before .before .before .before .chain .ensures))
+element-copy-out-is-flagged c =
+    let at-chain = c .before .before .before .before in
+    let at-pre = at-chain .before .before .before .before .before in
+    omega (arith, chained-at _ _ _ (at-pre .pre) _ (at-chain .chain .ensures))
 
 is-flagged-requires : tie.Need-is-flagged-requires
 is-flagged-requires c κs = search needs
 
 returns-4 : tie.Need-returns-4
 returns-4 c =
+    let at-if4 = c .before .before .before in
+    let at-is-adding = at-if4 .before in
+    let at-if3 = at-is-adding .before .before in
     let ch = c .before .before .before .before .before .before .before in
     let at = ch .before .before .before in
-    chain-at _ _ _ (at .before .before .pre) _ _ (ch .before .if2 .left) (at .source-of .ensures) (ch .before .before .if1 .left) (ch .chain .ensures) (c .before .before .before .before .before .before .if3 .left) _ (c .before .before .before .before .is-adding .ensures) (c .before .before .before .if4 .taken) _ (c .before .is-flagged .ensures) (c .if5 .taken)
+    chain-at _ _ _ (at .before .before .pre) _ _ (ch .before .if2 .left) (at .source-of .ensures)
+    (ch .before .before .if1 .left) (ch .chain .ensures) (at-if3 .if3 .left) _ (at-is-adding .is-adding .ensures)
+    (at-if4 .if4 .taken) _ (c .before .is-flagged .ensures) (c .if5 .taken)
 
 returns-5 : tie.Need-returns-5
 returns-5 c =
+    let at-if4 = c .before .before .before in
+    let at-is-adding = at-if4 .before in
+    let at-if3 = at-is-adding .before .before in
     let ch = c .before .before .before .before .before .before .before in
     let at = ch .before .before .before in
-    unflagged-at _ _ _ (at .before .before .pre) _ _ (ch .before .if2 .left) (at .source-of .ensures) (ch .before .before .if1 .left) (ch .chain .ensures) (c .before .before .before .before .before .before .if3 .left) _ (c .before .before .before .before .is-adding .ensures) (c .before .before .before .if4 .taken) _ (c .before .is-flagged .ensures) (c .if5 .left)
+    unflagged-at _ _ _ (at .before .before .pre) _ _ (ch .before .if2 .left) (at .source-of .ensures)
+    (ch .before .before .if1 .left) (ch .chain .ensures) (at-if3 .if3 .left) _ (at-is-adding .is-adding .ensures)
+    (at-if4 .if4 .taken) _ (c .before .is-flagged .ensures) (c .if5 .left)
 
 returns-6 : tie.Need-returns-6
 returns-6 c =
+    let at-if3 = c .before .before .before in
     let ch = c .before .before .before .before in
     let at = ch .before .before .before in
-    unadded-at _ _ _ (at .before .before .pre) _ _ (ch .before .if2 .left) (at .source-of .ensures) (ch .before .before .if1 .left) (ch .chain .ensures) (c .before .before .before .if3 .left) _ (c .before .is-adding .ensures) (c .if4 .left)
+    unadded-at _ _ _ (at .before .before .pre) _ _ (ch .before .if2 .left) (at .source-of .ensures)
+    (ch .before .before .if1 .left) (ch .chain .ensures) (at-if3 .if3 .left) _ (c .before .is-adding .ensures)
+    (c .if4 .left)
 
 pub call-length-spec : {M : Type 1} → statement M
 call-length-spec =

@@ -25,15 +25,19 @@ destination-of-requires c κs = search needs
 
 returns : tie.Need-returns
 returns c =
+    let at-source-of = c .before .before .before in
+    let at-if1 = at-source-of .before .before in
     let at = c .before .before .before .before .before .before in
-    cut-chain _ _ _ (at .before .pre) _ (at .grow .ensures) (c .before .before .before .before .before .if1 .taken) _ _
-    (c .before .before .before .source-of .ensures) (c .before .destination-of .ensures) (c .if2 .taken)
+    cut-chain _ _ _ (at .before .pre) _ (at .grow .ensures) (at-if1 .if1 .taken) _ _
+    (at-source-of .source-of .ensures) (c .before .destination-of .ensures) (c .if2 .taken)
 
 returns-2 : tie.Need-returns-2
 returns-2 c =
+    let at-source-of = c .before .before .before in
+    let at-if1 = at-source-of .before .before in
     let at = c .before .before .before .before .before .before in
-    kept-chain _ _ _ (at .before .pre) _ (at .grow .ensures) (c .before .before .before .before .before .if1 .taken) _ _
-    (c .before .before .before .source-of .ensures) (c .before .destination-of .ensures) (c .if2 .left)
+    kept-chain _ _ _ (at .before .pre) _ (at .grow .ensures) (at-if1 .if1 .taken) _ _
+    (at-source-of .source-of .ensures) (c .before .destination-of .ensures) (c .if2 .left)
 
 returns-3 : tie.Need-returns-3
 returns-3 c = whole-chain _ _ _ (c .before .before .pre) _ (c .before .grow .ensures) (c .if1 .left)

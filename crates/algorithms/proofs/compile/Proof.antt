@@ -18,7 +18,11 @@ with-row-requires : tie.Need-with-row-requires
 with-row-requires c κs = search needs
 
 returns : tie.Need-returns
-returns c = compiled-row _ _ _ _ (c .before .before .before .before .is-tabled .ensures) _ _ _ (c .with-row .ensures) (c .before .before .before .if1 .taken) (c .before .before .row-of .ensures) (c .before .compile-row .ensures)
+returns c =
+    let at-if1 = c .before .before .before in
+    let at-is-tabled = at-if1 .before in
+    compiled-row _ _ _ _ (at-is-tabled .is-tabled .ensures) _ _ _ (c .with-row .ensures) (at-if1 .if1 .taken)
+    (c .before .before .row-of .ensures) (c .before .compile-row .ensures)
 
 refused-requires : tie.Need-refused-requires
 refused-requires c κs = search needs
@@ -27,7 +31,10 @@ with-row-requires-2 : tie.Need-with-row-requires-2
 with-row-requires-2 c κs = search needs
 
 returns-2 : tie.Need-returns-2
-returns-2 c = compiled-refused _ _ _ _ (c .before .before .before .is-tabled .ensures) _ _ _ (c .with-row2 .ensures) (c .before .before .if1 .left) (c .before .refused .ensures)
+returns-2 c =
+    let at-is-tabled = c .before .before .before in
+    compiled-refused _ _ _ _ (at-is-tabled .is-tabled .ensures) _ _ _ (c .with-row2 .ensures)
+    (c .before .before .if1 .left) (c .before .refused .ensures)
 
 pub compile-spec : {M : Type 1} → statement M
 compile-spec =

@@ -32,14 +32,18 @@ abbrev μ-loop : tie.MeasureT-loop
 
 -- an operator of the row is at hand
 within : (c : tie.In-loop Inv-loop μ-loop) → Within (c .before .before .before .args .operators) (c .before .loop .first) (now (c .before .before .before .args .row))
-within c = record { whole = c .before .before .before .pre .0; most = c .before .before .before .pre .1; one = c .loop-test .taken }
+within c =
+    let at-pre = c .before .before .before in
+    record { whole = at-pre .pre .0; most = at-pre .pre .1; one = c .loop-test .taken }
 
 -- the test of the code is the definition's
 tested : (c : tie.After-is-unready Inv-loop μ-loop)
     → c .is-unready .result ≡ unready (ready (c .before .before .before .before .before .before .loop .calls) (c .before .before .before .before .before .before .loop .count)) (c .before .before .call-of .result)
 tested c =
+    let at-loop = c .before .before .before .before .before .before in
     let e = c .before .before .call-of .ensures in
-    c .is-unready .ensures ∙ flags-agree (c .before .before .before .before .before .before .loop .flags) _ _ _ (c .before .before .before .before .before .before .loop .inv .shown) (call-input _ _ _ _ e) (call-output _ _ _ _ e)
+    c .is-unready .ensures ∙ flags-agree (at-loop .loop .flags) _ _ _ (at-loop .loop .inv .shown)
+    (call-input _ _ _ _ e) (call-output _ _ _ _ e)
 
 no-call-requires : tie.Need-no-call-requires Inv-loop μ-loop
 no-call-requires c κs = search needs
@@ -82,16 +86,23 @@ refused-requires-2 c κs = search needs
 
 returns-2 : tie.Need-returns-2 Inv-loop μ-loop
 returns-2 c =
+    let at-call-of = c .before .before .before .before in
+    let at-if1 = at-call-of .before in
+    let at-get-renderer = at-if1 .before in
     let at = c .before .before .before .before .before .before .before in
     c .refused2 .ensures
-    ∙ unready-at _ _ _ (within at) (record { count = at .before .loop .count; calls = at .before .loop .calls }) _ (c .before .before .before .before .before .before .get-renderer .ensures) _ (c .before .before .before .before .call-of .ensures) (c .before .before .before .before .before .if1 .left) _ (tested (c .before .before)) (c .before .if2 .taken)
+    ∙ unready-at _ _ _ (within at) (record { count = at .before .loop .count; calls = at .before .loop .calls }) _
+    (at-get-renderer .get-renderer .ensures) _ (at-call-of .call-of .ensures) (at-if1 .if1 .left) _
+    (tested (c .before .before)) (c .before .if2 .taken)
     ∙ at .before .loop .inv .rest
 
 cast-output : tie.Need-cast-output Inv-loop μ-loop
 cast-output c = omega arith
 
 array-write-flags : tie.Need-array-write-flags Inv-loop μ-loop
-array-write-flags c = omega (arith, call-output _ _ _ _ (c .before .before .before .before .call-of .ensures))
+array-write-flags c =
+    let at-call-of = c .before .before .before .before in
+    omega (arith, call-output _ _ _ _ (at-call-of .call-of .ensures))
 
 mul-calls : tie.Need-mul-calls Inv-loop μ-loop
 mul-calls c = omega arith
@@ -103,7 +114,10 @@ add-count : tie.Need-add-count Inv-loop μ-loop
 add-count c = omega arith
 
 add-first : tie.Need-add-first Inv-loop μ-loop
-add-first c = omega (arith, rendered-at _ _ _ (within (c .before .before .before .before .before .before .before)) _ (c .before .before .before .before .before .before .get-renderer .ensures))
+add-first c =
+    let at-get-renderer = c .before .before .before .before .before .before in
+    let far = at-get-renderer .before in
+    omega (arith, rendered-at _ _ _ (within (far)) _ (at-get-renderer .get-renderer .ensures))
 
 loop-less : tie.Need-loop-less Inv-loop μ-loop
 loop-less c = omega arith
@@ -111,17 +125,23 @@ loop-less c = omega arith
 loop-again : tie.Need-loop-again Inv-loop μ-loop
 unfolding extended
 loop-again c =
+    let at-call-of = c .before .before .before .before in
+    let at-if1 = at-call-of .before in
+    let at-get-renderer = at-if1 .before in
     let at = c .before .before .before .before .before .before .before in
-    let n = c .before .before .before .before .before .before .get-renderer .ensures in
-    let e = c .before .before .before .before .call-of .ensures in
+    let n = at-get-renderer .get-renderer .ensures in
+    let e = at-call-of .call-of .ensures in
     let t = tested (c .before .before) in
     record {
       size = simp length-set (at .before .loop .inv .size);
       slots = simp length-set (at .before .loop .inv .slots);
       fewer = omega arith;
       past = rendered-at _ _ _ (within at) _ n;
-      shown = flags-more (at .before .loop .flags) _ _ _ (at .before .loop .inv .size) (omega arith) (call-output _ _ _ _ e) (sym t ∙ c .before .if2 .left) (at .before .loop .inv .shown);
-      rest = step-at _ _ _ (within at) (record { count = at .before .loop .count; calls = at .before .loop .calls }) _ n _ e (c .before .before .before .before .before .if1 .left) _ t (c .before .if2 .left) ∙ at .before .loop .inv .rest;
+      shown = flags-more (at .before .loop .flags) _ _ _ (at .before .loop .inv .size) (omega arith)
+          (call-output _ _ _ _ e) (sym t ∙ c .before .if2 .left) (at .before .loop .inv .shown);
+      rest = step-at _ _ _ (within at)
+          (record { count = at .before .loop .count; calls = at .before .loop .calls }) _ n _ e (at-if1 .if1 .left) _ t
+          (c .before .if2 .left) ∙ at .before .loop .inv .rest;
     }
 
 cast-t21 : tie.Need-cast-t21 Inv-loop μ-loop

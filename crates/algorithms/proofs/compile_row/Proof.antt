@@ -14,7 +14,9 @@ compile-calls-requires c κs = (search needs, counted-few _ (sym (c .before .bef
 
 returns : tie.Need-returns
 unfolding planned
-returns c = rw (sym (c .before .before .before .is-counted .ensures) ∙ c .before .before .if1 .taken) (c .compile-calls .ensures)
+returns c =
+    let at-is-counted = c .before .before .before in
+    rw (sym (at-is-counted .is-counted .ensures) ∙ c .before .before .if1 .taken) (c .compile-calls .ensures)
 
 refused-requires : tie.Need-refused-requires
 refused-requires c κs = search needs

@@ -20,8 +20,10 @@ source-of-requires c κs = search needs
 
 returns-2 : tie.Need-returns-2
 returns-2 c =
+    let at-if1 = c .before .before .before in
     let at = c .before .before .before .before in
-    dry-rendered _ _ _ (at .before .pre) _ (at .call-length .ensures) (c .before .before .before .if1 .left) _ (c .before .source-of .ensures) (c .if2 .taken)
+    dry-rendered _ _ _ (at .before .pre) _ (at .call-length .ensures) (at-if1 .if1 .left) _
+    (c .before .source-of .ensures) (c .if2 .taken)
 
 element-copy-out-is-flagged : tie.Need-element-copy-out-is-flagged
 element-copy-out-is-flagged c = search needs
@@ -31,13 +33,21 @@ is-flagged-requires c κs = search needs
 
 returns-3 : tie.Need-returns-3
 returns-3 c =
+    let at-if2 = c .before .before .before in
+    let at-source-of = at-if2 .before in
+    let at-if1 = at-source-of .before .before in
     let at = c .before .before .before .before .before .before .before in
-    own-rendered _ _ _ (at .before .pre) _ (at .call-length .ensures) (c .before .before .before .before .before .before .if1 .left) _ (c .before .before .before .before .source-of .ensures) (c .before .before .before .if2 .left) _ (c .before .is-flagged .ensures) (c .if3 .taken)
+    own-rendered _ _ _ (at .before .pre) _ (at .call-length .ensures) (at-if1 .if1 .left) _
+    (at-source-of .source-of .ensures) (at-if2 .if2 .left) _ (c .before .is-flagged .ensures) (c .if3 .taken)
 
 returns-4 : tie.Need-returns-4
 returns-4 c =
+    let at-if2 = c .before .before .before in
+    let at-source-of = at-if2 .before in
+    let at-if1 = at-source-of .before .before in
     let at = c .before .before .before .before .before .before .before in
-    none-rendered _ _ _ (at .before .pre) _ (at .call-length .ensures) (c .before .before .before .before .before .before .if1 .left) _ (c .before .before .before .before .source-of .ensures) (c .before .before .before .if2 .left) _ (c .before .is-flagged .ensures) (c .if3 .left)
+    none-rendered _ _ _ (at .before .pre) _ (at .call-length .ensures) (at-if1 .if1 .left) _
+    (at-source-of .source-of .ensures) (at-if2 .if2 .left) _ (c .before .is-flagged .ensures) (c .if3 .left)
 
 pub get-renderer-spec : {M : Type 1} → statement M
 get-renderer-spec =

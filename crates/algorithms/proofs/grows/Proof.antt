@@ -17,7 +17,10 @@ is-adding-requires : tie.Need-is-adding-requires
 is-adding-requires c κs = search needs
 
 returns-2 : tie.Need-returns-2
-returns-2 c = grows-met _ _ _ _ (c .before .before .before .destination-of .ensures) (c .before .before .source-of .ensures) (c .before .if1 .left) _ (c .is-adding .ensures)
+returns-2 c =
+    let at-destination-of = c .before .before .before in
+    grows-met _ _ _ _ (at-destination-of .destination-of .ensures) (c .before .before .source-of .ensures)
+    (c .before .if1 .left) _ (c .is-adding .ensures)
 
 pub grows-spec : {M : Type 1} → statement M
 grows-spec =

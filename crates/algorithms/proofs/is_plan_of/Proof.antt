@@ -38,11 +38,15 @@ long c = search needs
 
 -- an operator of the row is at hand
 within : (c : tie.In-loop Inv-loop μ-loop) → Within (c .before .before .before .before .args .operators) (c .before .loop .first) (c .before .before .before .before .args .t2)
-within c = record { whole = long (c .before .before .before .before); most = c .before .loop .inv .most; one = c .loop-test .taken }
+within c =
+    let far = c .before .before .before .before in
+    record { whole = long (far); most = c .before .loop .inv .most; one = c .loop-test .taken }
 
 -- the plan so far
 abbrev so-far : tie.In-loop Inv-loop μ-loop → Plan
-so-far c = firstCalls (c .before .loop .k) (c .before .before .before .before .args .t3)
+so-far c =
+    let at-start = c .before .before .before .before in
+    firstCalls (c .before .loop .k) (at-start .args .t3)
 
 -- the test of the code is the definition's
 tested : (c : tie.After-is-unready Inv-loop μ-loop)
@@ -61,8 +65,12 @@ Goes-on c n d =
 
 stepped : (c : tie.Else3 Inv-loop μ-loop) → Goes-on (c .before .before .before .before .before .before .before .before) (c .before .before .before .before .before .before .get-renderer .result) (c .before .before .before .call-of .result)
 stepped c =
+    let at-call-of = c .before .before .before in
+    let at-if2 = at-call-of .before .before in
+    let at-get-renderer = at-if2 .before in
     let at = c .before .before .before .before .before .before .before .before in
-    step-at _ _ _ (within at) (so-far at) _ (c .before .before .before .before .before .before .get-renderer .ensures) _ (c .before .before .before .call-of .ensures) (c .before .before .before .before .before .if2 .left) _ (tested (c .before)) (c .if3 .left) ∙ at .before .loop .inv .rest
+    step-at _ _ _ (within at) (so-far at) _ (at-get-renderer .get-renderer .ensures) _ (at-call-of .call-of .ensures)
+    (at-if2 .if2 .left) _ (tested (c .before)) (c .if3 .left) ∙ at .before .loop .inv .rest
 
 is-counted-requires : tie.Need-is-counted-requires Inv-loop μ-loop
 is-counted-requires c κs = search needs
@@ -92,16 +100,22 @@ returns-2 c =
     no-plan-of _ _ _ 3 _ refl (lacking-at _ _ _ (within at) (so-far at) _ (c .before .get-renderer .ensures) (c .if2 .taken) ∙ at .before .loop .inv .rest)
 
 call-of-requires : tie.Need-call-of-requires Inv-loop μ-loop
-call-of-requires c κs = (within (c .before .before .before .before), omega arith, rendered-at _ _ _ (within (c .before .before .before .before)) _ (c .before .before .get-renderer .ensures))
+call-of-requires c κs =
+    let far = c .before .before .before .before in
+    (within (far), omega arith, rendered-at _ _ _ (within (far)) _ (c .before .before .get-renderer .ensures))
 
 is-unready-requires : tie.Need-is-unready-requires Inv-loop μ-loop
 is-unready-requires c κs = (call-input _ _ _ _ (c .before .call-of .ensures), call-output _ _ _ _ (c .before .call-of .ensures))
 
 returns-3 : tie.Need-returns-3 Inv-loop μ-loop
 returns-3 c =
+    let at-call-of = c .before .before .before in
+    let at-if2 = at-call-of .before .before in
+    let at-get-renderer = at-if2 .before in
     let at = c .before .before .before .before .before .before .before .before in
     no-plan-of _ _ _ 4 _ refl
-    (unready-at _ _ _ (within at) (so-far at) _ (c .before .before .before .before .before .before .get-renderer .ensures) _ (c .before .before .before .call-of .ensures) (c .before .before .before .before .before .if2 .left) _ (tested (c .before)) (c .if3 .taken)
+    (unready-at _ _ _ (within at) (so-far at) _ (at-get-renderer .get-renderer .ensures) _
+    (at-call-of .call-of .ensures) (at-if2 .if2 .left) _ (tested (c .before)) (c .if3 .taken)
     ∙ at .before .loop .inv .rest)
 
 mul-d : tie.Need-mul-d Inv-loop μ-loop
@@ -114,19 +128,27 @@ same-call-requires : tie.Need-same-call-requires Inv-loop μ-loop
 same-call-requires c κs = search needs
 
 returns-4 : tie.Need-returns-4 Inv-loop μ-loop
-returns-4 c = other-call _ _ _ _ _ _ _ (omega arith) (stepped (c .before .before .before)) (sym (c .before .same-call .ensures) ∙ not-true _ (c .if4 .taken))
+returns-4 c =
+    let far = c .before .before .before in
+    other-call _ _ _ _ _ _ _ (omega arith) (stepped (far))
+    (sym (c .before .same-call .ensures) ∙ not-true _ (c .if4 .taken))
 
 cast-output : tie.Need-cast-output Inv-loop μ-loop
 cast-output c = omega arith
 
 array-write-ready : tie.Need-array-write-ready Inv-loop μ-loop
-array-write-ready c = omega (arith, call-output _ _ _ _ (c .before .before .before .before .before .before .before .call-of .ensures))
+array-write-ready c =
+    let at-call-of = c .before .before .before .before .before .before .before in
+    omega (arith, call-output _ _ _ _ (at-call-of .call-of .ensures))
 
 add-k : tie.Need-add-k Inv-loop μ-loop
 add-k c = omega arith
 
 add-first : tie.Need-add-first Inv-loop μ-loop
-add-first c = omega (arith, rendered-at _ _ _ (within (c .before .before .before .before .before .before .before .before .before .before .before .before)) _ (c .before .before .before .before .before .before .before .before .before .before .get-renderer .ensures))
+add-first c =
+    let at-get-renderer = c .before .before .before .before .before .before .before .before .before .before in
+    let far = at-get-renderer .before .before in
+    omega (arith, rendered-at _ _ _ (within (far)) _ (at-get-renderer .get-renderer .ensures))
 
 loop-less : tie.Need-loop-less Inv-loop μ-loop
 loop-less c = omega arith
@@ -134,17 +156,25 @@ loop-less c = omega arith
 loop-again : tie.Need-loop-again Inv-loop μ-loop
 unfolding extended
 loop-again c =
+    let at-if3 = c .before .before .before .before in
+    let far = at-if3 .before in
+    let at-call-of = far .before .before in
+    let at-get-renderer = at-call-of .before .before .before in
     let at = c .before .before .before .before .before .before .before .before .before .before .before .before in
-    let e = c .before .before .before .before .before .before .before .call-of .ensures in
+    let e = at-call-of .call-of .ensures in
     let plan = at .before .before .before .before .args .t3 in
-    let next = first-next plan (at .before .loop .k) _ (sym (c .before .before .same-call .ensures) ∙ not-false _ (c .before .if4 .left)) in
+    let next = first-next plan (at .before .loop .k) _
+    (sym (c .before .before .same-call .ensures) ∙ not-false _ (c .before .if4 .left)) in
     record {
       size = simp length-set (at .before .loop .inv .size);
       most = at .before .loop .inv .most;
       fewer = omega arith;
-      past = rendered-at _ _ _ (within at) _ (c .before .before .before .before .before .before .before .before .before .before .get-renderer .ensures);
-      shown = rw (← next) (flags-more (at .before .loop .ready) (so-far at .calls) (so-far at .count) _ (at .before .loop .inv .size) (omega (arith, first-count plan (at .before .loop .k), first-slots plan (at .before .loop .k))) (call-output _ _ _ _ e) (sym (tested (c .before .before .before .before .before)) ∙ c .before .before .before .before .if3 .left) (at .before .loop .inv .shown));
-      rest = rw (← next) (stepped (c .before .before .before .before));
+      past = rendered-at _ _ _ (within at) _ (at-get-renderer .get-renderer .ensures);
+      shown = rw (← next) (flags-more (at .before .loop .ready) (so-far at .calls) (so-far at .count) _
+          (at .before .loop .inv .size)
+          (omega (arith, first-count plan (at .before .loop .k), first-slots plan (at .before .loop .k)))
+          (call-output _ _ _ _ e) (sym (tested (far)) ∙ at-if3 .if3 .left) (at .before .loop .inv .shown));
+      rest = rw (← next) (stepped (at-if3));
     }
 
 ends-at-requires : tie.Need-ends-at-requires Inv-loop μ-loop

@@ -34,10 +34,14 @@ div-rows : tie.Need-div-rows
 div-rows c = counted-some _ (counts (c .before .before))
 
 returns-4 : tie.Need-returns-4
-returns-4 c = long-table _ _ _ (counts (c .before .before .before)) (c .before .before .if2 .left) (c .before .if3 .left) (c .if4 .taken)
+returns-4 c =
+    let far = c .before .before .before in
+    long-table _ _ _ (counts (far)) (c .before .before .if2 .left) (c .before .if3 .left) (c .if4 .taken)
 
 returns-5 : tie.Need-returns-5
-returns-5 c = row-test _ _ _ (counts (c .before .before .before)) (c .before .before .if2 .left) (c .before .if3 .left) (c .if4 .left)
+returns-5 c =
+    let far = c .before .before .before in
+    row-test _ _ _ (counts (far)) (c .before .before .if2 .left) (c .before .if3 .left) (c .if4 .left)
 
 pub is-tabled-spec : {M : Type 1} → statement M
 is-tabled-spec =

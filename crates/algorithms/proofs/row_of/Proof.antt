@@ -30,7 +30,8 @@ six-bytes-requires c κs = search needs
 returns : tie.Need-returns
 unfolding rowOf
 returns c =
-    let a = c .before .before .before .args in
+    let at-start = c .before .before .before in
+    let a = at-start .args in
     let e : a .row * a .operators + a .operators - a .row * a .operators ≡ a .operators = omega arith in
     c .six-bytes .ensures ∙ rw e
 

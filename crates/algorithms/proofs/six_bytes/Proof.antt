@@ -24,7 +24,11 @@ byte-at-requires-6 c κs = search needs
 
 returns : tie.Need-returns
 unfolding six
-returns c = simp (c .before .before .before .before .before .byte-at .ensures, c .before .before .before .before .byte-at2 .ensures, c .before .before .before .byte-at3 .ensures, c .before .before .byte-at4 .ensures, c .before .byte-at5 .ensures, c .byte-at6 .ensures)
+returns c =
+    let at-byte-at3 = c .before .before .before in
+    let at-byte-at2 = at-byte-at3 .before in
+    let at-byte-at = at-byte-at2 .before in
+    simp (at-byte-at .byte-at .ensures, at-byte-at2 .byte-at2 .ensures, at-byte-at3 .byte-at3 .ensures, c .before .before .byte-at4 .ensures, c .before .byte-at5 .ensures, c .byte-at6 .ensures)
 
 pub six-bytes-spec : {M : Type 1} → statement M
 six-bytes-spec =

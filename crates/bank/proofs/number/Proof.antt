@@ -14,7 +14,9 @@ validate-requires c κs = search needs
 
 returns-2 : tie.Need-returns-2
 unfolding numberOf
-returns-2 c = rw (le-leb (c .before .before .before .args .slot) 31 (c .before .if1 .left), c .validate .ensures)
+returns-2 c =
+    let at-start = c .before .before .before in
+    rw (le-leb (at-start .args .slot) 31 (c .before .if1 .left), c .validate .ensures)
 
 pub number-spec : {M : Type 1} → statement M
 number-spec = tie.close (tie.spec returns validate-requires returns-2)

@@ -22,10 +22,15 @@ part-result-end c = search needs
 
 returns : tie.Need-returns
 unfolding partOf
-returns c = rw (ne-eqb (numberOf (now (c .before .before .before .before .args .dump)) (c .before .before .before .before .args .slot)) 0 (λ e. c .before .if1 .taken (c .before .before .number .ensures ∙ e)))
+returns c =
+    let at-start = c .before .before .before .before in
+    rw (ne-eqb (numberOf (now (at-start .args .dump)) (at-start .args .slot)) 0
+    (λ e. c .before .if1 .taken (c .before .before .number .ensures ∙ e)))
 
 slot-part-requires : tie.Need-slot-part-requires
-slot-part-requires c κs = sound-slot (now (c .before .before .before .args .dump)) (c .before .before .before .args .slot) (sym (c .before .number .ensures) ∙ c .if1 .left)
+slot-part-requires c κs =
+    let at-start = c .before .before .before in
+    sound-slot (now (at-start .args .dump)) (at-start .args .slot) (sym (c .before .number .ensures) ∙ c .if1 .left)
 
 returns-2 : tie.Need-returns-2
 unfolding partOf

@@ -16,13 +16,20 @@ use Rattle.bank.proofs.validate.Tie as tie
 
 -- the dump, and what the tests before the tally showed of it
 abbrev dump : tie.After-struct-known → List ℕ
-dump c = now (c .before .before .before .before .before .before .before .before .args .dump)
+dump c =
+    let at-start = c .before .before .before .before .before .before .before .before in
+    now (at-start .args .dump)
 
 long : (c : tie.After-struct-known) → length (dump c) ≡ 4104
-long c = c .before .before .before .before .before .before .if1 .left
+long c =
+    let at-if1 = c .before .before .before .before .before .before in
+    at-if1 .if1 .left
 
 right : (c : tie.After-struct-known) → framed frame (dump c) ≡ true
-right c = sym (c .before .before .before .before .before .framed-right .ensures) ∙ not-false (c .before .before .before .before .before .framed-right .result) (c .before .before .before .before .if2 .left)
+right c =
+    let at-if2 = c .before .before .before .before in
+    let at-framed-right = at-if2 .before in
+    sym (at-framed-right .framed-right .ensures) ∙ not-false (at-framed-right .framed-right .result) (at-if2 .if2 .left)
 
 sum-is : (c : tie.After-struct-known) → c .before .before .tally .result .sum ≡ total (dataOf (dump c)) % 128
 unfolding dataOf
@@ -39,7 +46,10 @@ framed-right-requires : tie.Need-framed-right-requires
 framed-right-requires c κs = search needs
 
 returns-2 : tie.Need-returns-2
-returns-2 c = is-11 (now (c .before .before .before .before .args .dump)) (c .before .before .if1 .left) (sym (c .before .framed-right .ensures) ∙ not-true (c .before .framed-right .result) (c .if2 .taken))
+returns-2 c =
+    let at-start = c .before .before .before .before in
+    is-11 (now (at-start .args .dump)) (c .before .before .if1 .left)
+    (sym (c .before .framed-right .ensures) ∙ not-true (c .before .framed-right .result) (c .if2 .taken))
 
 sub-tally : tie.Need-sub-tally
 sub-tally c = search needs
@@ -68,11 +78,17 @@ add-if5 c = search needs
 
 returns-5 : tie.Need-returns-5
 unfolding sumByte
-returns-5 c = let k = c .before .before .before .before in is-13 (dump k) (long k) (right k) (omega (arith, largest-is k)) (not-summed (dataOf (dump k)) (sumByte (dump k)) _ (sum-is k) (c .if5 .taken))
+returns-5 c =
+    let far = c .before .before .before .before in
+    let k = far in is-13 (dump k) (long k) (right k) (omega (arith, largest-is k))
+    (not-summed (dataOf (dump k)) (sumByte (dump k)) _ (sum-is k) (c .if5 .taken))
 
 returns-6 : tie.Need-returns-6
 unfolding sumByte
-returns-6 c = let k = c .before .before .before .before in is-sound (dump k) (long k) (right k) (omega (arith, largest-is k)) (is-summed (dataOf (dump k)) (sumByte (dump k)) _ (sum-is k) (omega arith) (c .if5 .left))
+returns-6 c =
+    let far = c .before .before .before .before in
+    let k = far in is-sound (dump k) (long k) (right k) (omega (arith, largest-is k))
+    (is-summed (dataOf (dump k)) (sumByte (dump k)) _ (sum-is k) (omega arith) (c .if5 .left))
 
 pub validate-spec : {M : Type 1} → statement M
 validate-spec =

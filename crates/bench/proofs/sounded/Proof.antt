@@ -27,13 +27,18 @@ loop-less c = omega arith
 
 loop-again : tie.Need-loop-again Inv-loop μ-loop
 loop-again c =
-    (omega (arith, c .before .before .before .before), c .before .before .before .render-with .kept .1 .1 .1 .1 .1 .0 ∙ c .before .before .before .before .before .before .loop .inv .1)
+    let at-render-with = c .before .before .before in
+    let far = at-render-with .before in
+    let at-loop = far .before .before in
+    (omega (arith, far), at-render-with .render-with .kept .1 .1 .1 .1 .1 .0 ∙ at-loop .loop .inv .1)
 
 array-copy-out-last : tie.Need-array-copy-out-last Inv-loop μ-loop
 array-copy-out-last c = omega arith
 
 same-length : tie.Need-same-length Inv-loop μ-loop
-same-length c = c .before .before .before .loop .inv .1
+same-length c =
+    let at-loop = c .before .before .before in
+    at-loop .loop .inv .1
 
 returns : tie.Need-returns Inv-loop μ-loop
 returns c = tt

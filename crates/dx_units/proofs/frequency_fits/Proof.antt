@@ -20,14 +20,26 @@ returns-3 c =
 returns-4 : tie.Need-returns-4
 unfolding frequencyFits
 returns-4 c =
-    simp
-    (le-leb _ _ (c .before .before .before .if1 .left), le-leb _ _ (c .before .before .if2 .left), le-leb _ _ (c .before .if3 .left), lt-leb _ _ (c .if4 .taken))
+    let at-if1 = c .before .before .before in
+    simp (
+      le-leb _ _ (at-if1 .if1 .left),
+      le-leb _ _ (c .before .before .if2 .left),
+      le-leb _ _
+          (c .before .if3 .left),
+      lt-leb _ _ (c .if4 .taken),
+    )
 
 returns-5 : tie.Need-returns-5
 unfolding frequencyFits
 returns-5 c =
-    simp
-    (le-leb _ _ (c .before .before .before .if1 .left), le-leb _ _ (c .before .before .if2 .left), le-leb _ _ (c .before .if3 .left), le-leb _ _ (c .if4 .left))
+    let at-if1 = c .before .before .before in
+    simp (
+      le-leb _ _ (at-if1 .if1 .left),
+      le-leb _ _ (c .before .before .if2 .left),
+      le-leb _ _
+          (c .before .if3 .left),
+      le-leb _ _ (c .if4 .left),
+    )
 
 pub frequency-fits-spec : {M : Type 1} → statement M
 frequency-fits-spec = tie.close (tie.spec returns returns-2 returns-3 returns-4 returns-5)

@@ -27,18 +27,20 @@ lut-pitch-ratio-low-requires c κs = search needs
 
 frequency-ratio-requires : tie.Need-frequency-ratio-requires
 frequency-ratio-requires c κs =
+    let far = c .before .before .before .before in
     let s = c .before .before .before .before .before .before in
-    fits-coarse (s .args .mode) (s .args .coarse) (s .args .fine) (s .args .detune) (fit (c .before .before .before .before))
+    fits-coarse (s .args .mode) (s .args .coarse) (s .args .fine) (s .args .detune) (fit (far))
 
 returns-2 : tie.Need-returns-2
 unfolding frequencyRatioAnswer
 returns-2 c =
+    let at-lut-pitch-ratio-low = c .before .before .before in
     let r = c .before .before .before .before in
     simp (
       fit (r .before),
       c .frequency-ratio .ensures,
       r .lut-pitch-ratio-high .ensures,
-      c .before .before .before .lut-pitch-ratio-low .ensures,
+      at-lut-pitch-ratio-low .lut-pitch-ratio-low .ensures,
     )
 
 pub frequency-ratio-spec : {M : Type 1} → statement M

@@ -21,8 +21,14 @@ returns-3 c =
 returns-4 : tie.Need-returns-4
 unfolding keyboardFits
 returns-4 c =
-    simp
-    (le-leb _ _ (c .before .before .before .if1 .left), le-leb _ _ (c .before .before .if2 .left), le-leb _ _ (c .before .if3 .left), lt-leb _ _ (c .if4 .taken))
+    let at-if1 = c .before .before .before in
+    simp (
+      le-leb _ _ (at-if1 .if1 .left),
+      le-leb _ _ (c .before .before .if2 .left),
+      le-leb _ _
+          (c .before .if3 .left),
+      lt-leb _ _ (c .if4 .taken),
+    )
 
 returns-5 : tie.Need-returns-5
 unfolding keyboardFits

@@ -27,16 +27,22 @@ keyboard-scaling-requires c κs = search needs
 returns-2 : tie.Need-returns-2
 unfolding keyboardScalingAnswer decimal ofBits
 returns-2 c =
-    parameter-inside _ (c .before .before .before .before .before .args .note) 127 _ (fit (c .before .before .before)) (c .before .before .if2 .taken) (c .before .if3 .taken)
+    let far = c .before .before .before in
+    let at-start = far .before .before in
+    parameter-inside _ (at-start .args .note) 127 _ (fit (far)) (c .before .before .if2 .taken) (c .before .if3 .taken)
     (c .keyboard-scaling .ensures)
 
 returns-3 : tie.Need-returns-3
 unfolding keyboardScalingAnswer decimal ofBits
-returns-3 c = parameter-above _ (c .before .before .before .before .args .note) 127 _ (fit (c .before .before)) (c .before .if2 .taken) (c .if3 .left)
+returns-3 c =
+    let at-start = c .before .before .before .before in
+    parameter-above _ (at-start .args .note) 127 _ (fit (c .before .before)) (c .before .if2 .taken) (c .if3 .left)
 
 returns-4 : tie.Need-returns-4
 unfolding keyboardScalingAnswer decimal ofBits
-returns-4 c = parameter-below _ (c .before .before .before .args .note) 127 _ (fit (c .before)) (c .if2 .left)
+returns-4 c =
+    let at-start = c .before .before .before in
+    parameter-below _ (at-start .args .note) 127 _ (fit (c .before)) (c .if2 .left)
 
 pub keyboard-scaling-spec : {M : Type 1} → statement M
 keyboard-scaling-spec =

@@ -15,7 +15,9 @@ normalize-velocity-requires c κs = search needs
 returns : tie.Need-returns
 unfolding normalizeVelocityAnswer decimal ofBits
 returns c =
-    parameter-inside true (c .before .before .before .args .velocity) 1 _ refl (c .before .before .if1 .taken) (c .before .if2 .taken) (c .normalize-velocity .ensures)
+    let at-start = c .before .before .before in
+    parameter-inside true (at-start .args .velocity) 1 _ refl (c .before .before .if1 .taken) (c .before .if2 .taken)
+    (c .normalize-velocity .ensures)
 
 returns-2 : tie.Need-returns-2
 unfolding normalizeVelocityAnswer decimal ofBits

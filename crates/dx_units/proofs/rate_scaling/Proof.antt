@@ -18,13 +18,17 @@ rate-scaling-requires c κs = search needs
 returns-2 : tie.Need-returns-2
 unfolding rateScalingAnswer decimal ofBits
 returns-2 c =
+    let at-if1 = c .before .before .before in
     let s = c .before .before .before .before in
-    parameter-inside _ (s .args .note) 127 _ (le-leb _ _ (c .before .before .before .if1 .left)) (c .before .before .if2 .taken) (c .before .if3 .taken) (c .rate-scaling .ensures)
+    parameter-inside _ (s .args .note) 127 _ (le-leb _ _ (at-if1 .if1 .left)) (c .before .before .if2 .taken)
+    (c .before .if3 .taken) (c .rate-scaling .ensures)
 
 returns-3 : tie.Need-returns-3
 unfolding rateScalingAnswer decimal ofBits
 returns-3 c =
-    parameter-above _ (c .before .before .before .args .note) 127 _ (le-leb _ _ (c .before .before .if1 .left)) (c .before .if2 .taken) (c .if3 .left)
+    let at-start = c .before .before .before in
+    parameter-above _ (at-start .args .note) 127 _ (le-leb _ _ (c .before .before .if1 .left)) (c .before .if2 .taken)
+    (c .if3 .left)
 
 returns-4 : tie.Need-returns-4
 unfolding rateScalingAnswer decimal ofBits

@@ -17,12 +17,15 @@ returns c =
 returns-2 : tie.Need-returns-2
 unfolding decimal ofBits
 returns-2 c =
-    bent-two (c .before .before .before .args .t) (c .before .before .f32-min .result) (c .before .before .before .args .curve)
+    let at-start = c .before .before .before in
+    bent-two (at-start .args .t) (c .before .before .f32-min .result) (at-start .args .curve)
     (c .before .before .f32-min .ensures) (c .before .if1 .left) (c .if2 .taken)
 
 returns-3 : tie.Need-returns-3
 unfolding decimal ofBits
-returns-3 c = bent-not (c .before .before .before .args .t) (c .before .before .before .args .curve) (c .before .if1 .left) (c .if2 .left)
+returns-3 c =
+    let at-start = c .before .before .before in
+    bent-not (at-start .args .t) (at-start .args .curve) (c .before .if1 .left) (c .if2 .left)
 
 pub bend-spec : {M : Type 1} → statement M
 bend-spec = tie.close (tie.spec f32-min-requires returns returns-2 returns-3)

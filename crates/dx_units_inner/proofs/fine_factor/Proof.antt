@@ -12,7 +12,8 @@ int-to-float-result c = search needs
 returns : tie.Need-returns
 unfolding decimal ofBits
 returns c =
-    factor-fine (c .before .before .before .args .mode) (c .before .before .before .args .fine) (c .before .before .if1 .taken)
+    let at-start = c .before .before .before in
+    factor-fine (at-start .args .mode) (at-start .args .fine) (c .before .before .if1 .taken)
     (c .before .if2 .taken)
 
 returns-2 : tie.Need-returns-2

@@ -22,17 +22,21 @@ fine-factor-requires c κs = search needs
 returns : tie.Need-returns
 unfolding decimal ofBits
 returns c =
+    let at-base-semitones = c .before .before .before .before in
     let s = c .before .before .before .before .before in
-    to-note (now (s .args .high)) (now (s .args .low)) (s .args .mode) (s .args .coarse) (s .args .fine) (s .args .detune)
-    (c .before .before .before .before .base-semitones .ensures) (c .before .before .semitones-to-ratio-lent .ensures)
+    to-note (now (s .args .high)) (now (s .args .low)) (s .args .mode) (s .args .coarse) (s .args .fine)
+    (s .args .detune)
+    (at-base-semitones .base-semitones .ensures) (c .before .before .semitones-to-ratio-lent .ensures)
     (c .before .fine-factor .ensures) (c .if1 .taken)
 
 returns-2 : tie.Need-returns-2
 unfolding decimal ofBits
 returns-2 c =
+    let at-base-semitones = c .before .before .before .before in
     let s = c .before .before .before .before .before in
-    to-hertz (now (s .args .high)) (now (s .args .low)) (s .args .mode) (s .args .coarse) (s .args .fine) (s .args .detune)
-    (c .before .before .before .before .base-semitones .ensures) (c .before .before .semitones-to-ratio-lent .ensures)
+    to-hertz (now (s .args .high)) (now (s .args .low)) (s .args .mode) (s .args .coarse) (s .args .fine)
+    (s .args .detune)
+    (at-base-semitones .base-semitones .ensures) (c .before .before .semitones-to-ratio-lent .ensures)
     (c .before .fine-factor .ensures) (c .if1 .left)
 
 pub frequency-ratio-spec : {M : Type 1} → statement M

@@ -28,8 +28,11 @@ u32-as-f32-requires-2 c κs = search needs
 returns-2 : tie.Need-returns-2
 unfolding decimal ofBits
 returns-2 c =
-    delay-some (c .before .before .before .before .before .args .delay) (c .before .before .before .before .if1 .left)
-    (c .before .before .before .delay-steps .ensures) (c .before .before .at-least-128 .ensures) (c .before .u32-as-f32 .ensures)
+    let at-delay-steps = c .before .before .before in
+    let at-if1 = at-delay-steps .before in
+    let at-start = at-if1 .before in
+    delay-some (at-start .args .delay) (at-if1 .if1 .left)
+    (at-delay-steps .delay-steps .ensures) (c .before .before .at-least-128 .ensures) (c .before .u32-as-f32 .ensures)
     (c .u32-as-f322 .ensures)
 
 pub lfo-delay-spec : {M : Type 1} → statement M

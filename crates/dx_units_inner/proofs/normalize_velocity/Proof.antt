@@ -18,7 +18,9 @@ interpolate-requires c κs = search needs
 
 returns : tie.Need-returns
 unfolding lutCubeRoot decimal ofBits
-returns c = velocity (c .before .before .before .args .velocity) (c .before .f32-min .ensures) (c .interpolate .ensures)
+returns c =
+    let at-start = c .before .before .before in
+    velocity (at-start .args .velocity) (c .before .f32-min .ensures) (c .interpolate .ensures)
 
 pub normalize-velocity-spec : {M : Type 1} → statement M
 normalize-velocity-spec =

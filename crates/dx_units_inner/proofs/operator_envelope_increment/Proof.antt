@@ -28,8 +28,10 @@ i32-as-f32-requires c κs = search needs
 returns : tie.Need-returns
 unfolding decimal ofBits
 returns c =
+    let at-start = c .before .before .before in
     let n = c .before .u32-as-i32 in
-    increment (c .before .before .before .args .rate) (c .before .before .wrapping-shl-u32 .ensures) (n .ensures) (back (n .result) (n .ok))
+    increment (at-start .args .rate) (c .before .before .wrapping-shl-u32 .ensures) (n .ensures)
+    (back (n .result) (n .ok))
     (c .i32-as-f32 .ensures)
 
 pub operator-envelope-increment-spec : {M : Type 1} → statement M

@@ -17,7 +17,9 @@ f32-max-requires c κs = search needs
 
 returns : tie.Need-returns
 unfolding decimal ofBits
-returns c = pitch-level (c .before .before .before .args .level) (c .before .f32-abs .ensures) (c .f32-max .ensures)
+returns c =
+    let at-start = c .before .before .before in
+    pitch-level (at-start .args .level) (c .before .f32-abs .ensures) (c .f32-max .ensures)
 
 pub pitch-envelope-level-spec : {M : Type 1} → statement M
 pitch-envelope-level-spec =

@@ -18,8 +18,10 @@ int-to-float-result c = search needs
 returns : tie.Need-returns
 unfolding decimal ofBits
 returns c =
+    let at-f32-abs = c .before .before .before in
     let s = c .before .before .before .before in
-    side-down (s .args .x) (s .args .curve) (s .args .depth) (c .before .before .before .f32-abs .ensures) (c .before .before .bend .ensures)
+    side-down (s .args .x) (s .args .curve) (s .args .depth) (at-f32-abs .f32-abs .ensures)
+    (c .before .before .bend .ensures)
     (c .before .if1 .taken)
 
 int-to-float-result-2 : tie.Need-int-to-float-result-2
@@ -28,8 +30,10 @@ int-to-float-result-2 c = search needs
 returns-2 : tie.Need-returns-2
 unfolding decimal ofBits
 returns-2 c =
+    let at-f32-abs = c .before .before .before in
     let s = c .before .before .before .before in
-    side-up (s .args .x) (s .args .curve) (s .args .depth) (c .before .before .before .f32-abs .ensures) (c .before .before .bend .ensures)
+    side-up (s .args .x) (s .args .curve) (s .args .depth) (at-f32-abs .f32-abs .ensures)
+    (c .before .before .bend .ensures)
     (c .before .if1 .left)
 
 pub side-scaling-spec : {M : Type 1} → statement M

@@ -31,11 +31,15 @@ f32-from-bits-requires c κs = search needs
 returns : tie.Need-returns
 unfolding decimal ofBits
 returns c =
+    let at-i32-as-u32 = c .before .before .before in
+    let at-mantissa = at-i32-as-u32 .before in
+    let at-i32-as-f32 = at-mantissa .before in
+    let at-whole-below = at-i32-as-f32 .before in
     let s = c .before .before .before .before .before .before .before in
-    let n = c .before .before .before .before .before .before .whole-below in
+    let n = at-whole-below .whole-below in
     other-order (s .args .x) (s .args .order) (s .pre) (n .ensures) (back (n .result) (n .ok))
-    (c .before .before .before .before .before .i32-as-f32 .ensures) (back (s .args .order) (s .fits .order .sfits))
-    (c .before .before .before .before .mantissa .ensures) (c .before .before .before .i32-as-u32 .ensures) (c .before .before .wrapping-shl-u32 .ensures)
+    (at-i32-as-f32 .i32-as-f32 .ensures) (back (s .args .order) (s .fits .order .sfits))
+    (at-mantissa .mantissa .ensures) (at-i32-as-u32 .i32-as-u32 .ensures) (c .before .before .wrapping-shl-u32 .ensures)
     (c .before .wrapping-add-u32 .ensures) (c .f32-from-bits .ensures)
 
 pub pow-2-any-spec : {M : Type 1} → statement M

@@ -23,17 +23,22 @@ float-to-float-result c =
 float-to-int-result : tie.Need-float-to-int-result
 unfolding decimal ofBits
 float-to-int-result c =
-    let y = product (c .before .before .before .args .x) in
+    let at-start = c .before .before .before in
+    let y = product (at-start .args .x) in
     let p = a-pattern y (c .before .before .if1 .taken) in
     fast-in y (c .before .row-known .given) (pattern-whole y p) (pattern-below y p)
 
 float-from-bits-result : tie.Need-float-from-bits-result
 unfolding decimal ofBits
-float-from-bits-result c = let y = product (c .before .before .before .args .x) in no-nan y (a-pattern y (c .before .before .if1 .taken))
+float-from-bits-result c =
+    let at-start = c .before .before .before in
+    let y = product (at-start .args .x) in no-nan y (a-pattern y (c .before .before .if1 .taken))
 
 returns : tie.Need-returns
 unfolding decimal ofBits
-returns c = let x = c .before .before .before .args .x in in-one-cast x (a-pattern (product x) (c .before .before .if1 .taken))
+returns c =
+    let at-start = c .before .before .before in
+    let x = at-start .args .x in in-one-cast x (a-pattern (product x) (c .before .before .if1 .taken))
 
 f32-as-i32-requires : tie.Need-f32-as-i32-requires
 f32-as-i32-requires c κs = search needs
@@ -47,8 +52,10 @@ f32-from-bits-requires c κs = search needs
 returns-2 : tie.Need-returns-2
 unfolding decimal ofBits
 returns-2 c =
+    let at-start = c .before .before .before .before in
     let n = c .before .before .f32-as-i32 in
-    first-order (c .before .before .before .before .args .x) (pos 1) refl (n .ensures) (back (n .result) (n .ok)) (c .before .i32-as-u32 .ensures)
+    first-order (at-start .args .x) (pos 1) refl (n .ensures) (back (n .result) (n .ok))
+    (c .before .i32-as-u32 .ensures)
     (c .f32-from-bits .ensures)
 
 pub pow-2-fast-1-spec : {M : Type 1} → statement M

@@ -16,9 +16,10 @@ wrapping-sub-i32-requires c κs = search needs
 returns : tie.Need-returns
 unfolding decimal ofBits
 returns c =
+    let at-start = c .before .before .before in
     let n = c .before .before .f32-as-i32 in
     let r = c .wrapping-sub-i32 in
-    below-zero (c .before .before .before .args .x) (c .before .if1 .taken) (n .ensures) (back (n .result) (n .ok)) (r .ensures)
+    below-zero (at-start .args .x) (c .before .if1 .taken) (n .ensures) (back (n .result) (n .ok)) (r .ensures)
     (back (r .result) (r .ok))
 
 returns-2 : tie.Need-returns-2

@@ -31,11 +31,27 @@ array-read-if4 c = search needs
 
 returns-4 : tie.Need-returns-4
 unfolding allFit
-returns-4 c = simp (lt-leb _ _ (c .if4 .taken), le-leb _ _ (c .before .before .before .if1 .left), le-leb _ _ (c .before .before .if2 .left), le-leb _ _ (c .before .if3 .left))
+returns-4 c =
+    let at-if1 = c .before .before .before in
+    simp (
+      lt-leb _ _ (c .if4 .taken),
+      le-leb _ _ (at-if1 .if1 .left),
+      le-leb _ _
+          (c .before .before .if2 .left),
+      le-leb _ _ (c .before .if3 .left),
+    )
 
 returns-5 : tie.Need-returns-5
 unfolding allFit
-returns-5 c = simp (le-leb _ _ (c .before .before .before .if1 .left), le-leb _ _ (c .before .before .if2 .left), le-leb _ _ (c .before .if3 .left), le-leb _ _ (c .if4 .left))
+returns-5 c =
+    let at-if1 = c .before .before .before in
+    simp (
+      le-leb _ _ (at-if1 .if1 .left),
+      le-leb _ _ (c .before .before .if2 .left),
+      le-leb _ _
+          (c .before .if3 .left),
+      le-leb _ _ (c .if4 .left),
+    )
 
 pub all-fit-spec : {M : Type 1} → statement M
 all-fit-spec =

@@ -22,7 +22,14 @@ operator-set-requires c κs = search needs
 
 returns-3 : tie.Need-returns-3
 unfolding operatorSetAnswer
-returns-3 c = simp (le-leb _ _ (c .before .before .before .if1 .left), sym (c .before .before .operator-fits .ensures) ∙ not-false (c .before .before .operator-fits .result) (c .before .if2 .left), c .operator-set .ensures)
+returns-3 c =
+    let at-if1 = c .before .before .before in
+    simp (
+      le-leb _ _ (at-if1 .if1 .left),
+      sym (c .before .before .operator-fits .ensures) ∙ not-false
+          (c .before .before .operator-fits .result) (c .before .if2 .left),
+      c .operator-set .ensures,
+    )
 
 pub operator-set-spec : {M : Type 1} → statement M
 operator-set-spec =

@@ -22,7 +22,14 @@ pitch-set-requires c κs = search needs
 
 returns-3 : tie.Need-returns-3
 unfolding pitchSetAnswer
-returns-3 c = simp (le-leb _ _ (c .before .before .before .if1 .left), sym (c .before .before .pitch-fits .ensures) ∙ not-false (c .before .before .pitch-fits .result) (c .before .if2 .left), c .pitch-set .ensures)
+returns-3 c =
+    let at-if1 = c .before .before .before in
+    simp (
+      le-leb _ _ (at-if1 .if1 .left),
+      sym (c .before .before .pitch-fits .ensures) ∙ not-false
+          (c .before .before .pitch-fits .result) (c .before .if2 .left),
+      c .pitch-set .ensures,
+    )
 
 pub pitch-set-spec : {M : Type 1} → statement M
 pitch-set-spec =

@@ -24,7 +24,9 @@ current-value-requires c κs = rw (c .move-to .ensures ∙ c .before .render .en
 
 returns-2 : tie.Need-returns-2
 unfolding renderAnswer
-returns-2 c = simp (le-leb _ _ (c .before .before .before .if1 .left), c .current-value .ensures, c .before .move-to .ensures ∙ c .before .before .render .ensures)
+returns-2 c =
+    let at-if1 = c .before .before .before in
+    simp (le-leb _ _ (at-if1 .if1 .left), c .current-value .ensures, c .before .move-to .ensures ∙ c .before .before .render .ensures)
 
 pub render-spec : {M : Type 1} → statement M
 render-spec =

@@ -54,7 +54,9 @@ operator-stage-increment-requires-4 c κs = search needs
 
 returns : tie.Need-returns
 unfolding operatorIncrements
-returns c = simp (c .before .before .before .operator-stage-increment .ensures, c .before .before .operator-stage-increment2 .ensures, c .before .operator-stage-increment3 .ensures, c .operator-stage-increment4 .ensures)
+returns c =
+    let at-operator-stage-increment = c .before .before .before in
+    simp (at-operator-stage-increment .operator-stage-increment .ensures, c .before .before .operator-stage-increment2 .ensures, c .before .operator-stage-increment3 .ensures, c .operator-stage-increment4 .ensures)
 
 pub operator-increments-spec : {M : Type 1} → statement M
 operator-increments-spec =

@@ -30,7 +30,9 @@ operator-stage-level-requires-4 c κs = search needs
 
 returns : tie.Need-returns
 unfolding operatorLevels
-returns c = simp (c .before .before .before .operator-stage-level .ensures, c .before .before .operator-stage-level2 .ensures, c .before .operator-stage-level3 .ensures, c .operator-stage-level4 .ensures)
+returns c =
+    let at-operator-stage-level = c .before .before .before in
+    simp (at-operator-stage-level .operator-stage-level .ensures, c .before .before .operator-stage-level2 .ensures, c .before .operator-stage-level3 .ensures, c .operator-stage-level4 .ensures)
 
 pub operator-levels-spec : {M : Type 1} → statement M
 operator-levels-spec =

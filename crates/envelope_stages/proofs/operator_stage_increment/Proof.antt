@@ -23,7 +23,9 @@ rising-increment-requires c κs = search needs
 
 returns-3 : tie.Need-returns-3
 unfolding operatorStageIncrement decimal round ofBits
-returns-3 c = simp (sym (c .before .before .before .operator-envelope-increment .ensures), c .before .before .if1 .left, c .before .if3 .taken) (c .rising-increment .ensures)
+returns-3 c =
+    let at-operator-envelope-increment = c .before .before .before in
+    simp (sym (at-operator-envelope-increment .operator-envelope-increment .ensures), c .before .before .if1 .left, c .before .if3 .taken) (c .rising-increment .ensures)
 
 returns-4 : tie.Need-returns-4
 unfolding operatorStageIncrement decimal round ofBits

@@ -54,7 +54,9 @@ pitch-stage-increment-requires-4 c κs = search needs
 
 returns : tie.Need-returns
 unfolding pitchIncrements
-returns c = simp (c .before .before .before .pitch-stage-increment .ensures, c .before .before .pitch-stage-increment2 .ensures, c .before .pitch-stage-increment3 .ensures, c .pitch-stage-increment4 .ensures)
+returns c =
+    let at-pitch-stage-increment = c .before .before .before in
+    simp (at-pitch-stage-increment .pitch-stage-increment .ensures, c .before .before .pitch-stage-increment2 .ensures, c .before .pitch-stage-increment3 .ensures, c .pitch-stage-increment4 .ensures)
 
 pub pitch-increments-spec : {M : Type 1} → statement M
 pitch-increments-spec =

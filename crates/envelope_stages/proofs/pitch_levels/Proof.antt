@@ -30,7 +30,9 @@ pitch-envelope-level-requires-4 c κs = search needs
 
 returns : tie.Need-returns
 unfolding pitchLevels
-returns c = simp (c .before .before .before .pitch-envelope-level .ensures, c .before .before .pitch-envelope-level2 .ensures, c .before .pitch-envelope-level3 .ensures, c .pitch-envelope-level4 .ensures)
+returns c =
+    let at-pitch-envelope-level = c .before .before .before in
+    simp (at-pitch-envelope-level .pitch-envelope-level .ensures, c .before .before .pitch-envelope-level2 .ensures, c .before .pitch-envelope-level3 .ensures, c .pitch-envelope-level4 .ensures)
 
 pub pitch-levels-spec : {M : Type 1} → statement M
 pitch-levels-spec =

@@ -37,7 +37,9 @@ loop-less : tie.Need-loop-less Inv-loop μ-loop
 loop-less c = omega arith
 
 loop-again : tie.Need-loop-again Inv-loop μ-loop
-loop-again c = (omega arith, hashed-next _ _ _ (c .before .before .before .before .loop .inv .1) (c .before .f32-to-bits .ensures) (c .hash-word .ensures))
+loop-again c =
+    let at-loop = c .before .before .before .before in
+    (omega arith, hashed-next _ _ _ (at-loop .loop .inv .1) (c .before .f32-to-bits .ensures) (c .hash-word .ensures))
 
 returns : tie.Need-returns Inv-loop μ-loop
 returns c =

@@ -18,7 +18,9 @@ hash-byte-requires-4 c κs = search needs
 
 returns : tie.Need-returns
 unfolding hashedWord
-returns c = simp (c .hash-byte4 .ensures, c .before .hash-byte3 .ensures, c .before .before .hash-byte2 .ensures, c .before .before .before .hash-byte .ensures)
+returns c =
+    let at-hash-byte = c .before .before .before in
+    simp (c .hash-byte4 .ensures, c .before .hash-byte3 .ensures, c .before .before .hash-byte2 .ensures, at-hash-byte .hash-byte .ensures)
 
 pub hash-word-spec : {M : Type 1} → statement M
 hash-word-spec =

@@ -26,7 +26,16 @@ play-notes-requires : tie.Need-play-notes-requires
 play-notes-requires c κs = search needs
 
 returns-2 : tie.Need-returns-2
-returns-2 c = identified _ _ (c .before .before .before .before .before .before .before .before .before .before .before .prepare .ensures) (c .before .before .before .before .before .before .before .before .before .if1 .left) (c .before .before .before .before .before .before .before .before .lut-sine .ensures) (c .before .before .before .before .before .before .before .sine-pairs .ensures) (c .before .before .before .before .before .before .lut-pitch-ratio-high .ensures) (c .before .before .before .before .before .lut-pitch-ratio-low .ensures) (c .play-notes .ensures)
+returns-2 c =
+    let at-lut-pitch-ratio-low = c .before .before .before .before .before in
+    let at-lut-pitch-ratio-high = at-lut-pitch-ratio-low .before in
+    let at-sine-pairs = at-lut-pitch-ratio-high .before in
+    let at-lut-sine = at-sine-pairs .before in
+    let at-if1 = at-lut-sine .before in
+    let at-prepare = at-if1 .before .before in
+    identified _ _ (at-prepare .prepare .ensures) (at-if1 .if1 .left) (at-lut-sine .lut-sine .ensures)
+    (at-sine-pairs .sine-pairs .ensures) (at-lut-pitch-ratio-high .lut-pitch-ratio-high .ensures)
+    (at-lut-pitch-ratio-low .lut-pitch-ratio-low .ensures) (c .play-notes .ensures)
 
 pub identify-spec : {M : Type 1} → statement M
 identify-spec =

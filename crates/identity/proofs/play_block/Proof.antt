@@ -29,7 +29,15 @@ hash-output-requires c κs = search needs
 
 returns : tie.Need-returns
 unfolding decimal ofBits
-returns c = block-played-of _ _ _ _ _ _ _ (c .before .before .before .before .before .before .before .before .before .before .before .step-with .ensures) (c .before .before .before .before .before .before .before .before .before .pitch-mod .ensures) (c .before .before .before .before .before .before .before .before .amp-mod .ensures) (c .before .before .before .before .before .before .before .parameters .ensures) (c .before .before .before .before .render-with .ensures) (c .before .hash-output .ensures)
+returns c =
+    let at-render-with = c .before .before .before .before in
+    let at-parameters = at-render-with .before .before .before in
+    let at-amp-mod = at-parameters .before in
+    let at-pitch-mod = at-amp-mod .before in
+    let at-step-with = at-pitch-mod .before .before in
+    block-played-of _ _ _ _ _ _ _ (at-step-with .step-with .ensures) (at-pitch-mod .pitch-mod .ensures)
+    (at-amp-mod .amp-mod .ensures) (at-parameters .parameters .ensures) (at-render-with .render-with .ensures)
+    (c .before .hash-output .ensures)
 
 pub play-block-spec : {M : Type 1} → statement M
 play-block-spec =

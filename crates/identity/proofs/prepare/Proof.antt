@@ -32,7 +32,15 @@ first-number-requires c κs = search needs
 
 returns : tie.Need-returns
 unfolding decimal ofBits
-returns c = readied-of _ (c .before .before .before .before .before .before .before .before .before .before .before .before .before .opcodes-6-32 .ensures) (c .before .before .before .before .before .before .before .before .before .before .before .before .init .ensures) (c .before .before .before .before .before .before .before .before .before .set-patch .ensures) (c .before .before .before .before .before .before .before .before .init2 .ensures) (c .before .before .before .before .before .set .ensures) (c .before .before .before .reset .ensures) (c .first-number .ensures)
+returns c =
+    let at-reset = c .before .before .before in
+    let at-set = at-reset .before .before in
+    let at-init2 = at-set .before .before .before in
+    let at-set-patch = at-init2 .before in
+    let at-init = at-set-patch .before .before .before in
+    let at-opcodes-6-32 = at-init .before in
+    readied-of _ (at-opcodes-6-32 .opcodes-6-32 .ensures) (at-init .init .ensures) (at-set-patch .set-patch .ensures)
+    (at-init2 .init2 .ensures) (at-set .set .ensures) (at-reset .reset .ensures) (c .first-number .ensures)
 
 pub prepare-spec : {M : Type 1} → statement M
 prepare-spec =

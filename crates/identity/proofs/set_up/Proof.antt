@@ -17,7 +17,9 @@ render-with-requires c κs = search needs
 
 returns : tie.Need-returns
 unfolding decimal ofBits
-returns c = set-up-of _ _ _ _ _ (c .before .before .before .before .parameters .ensures) (c .before .before .render-with .ensures)
+returns c =
+    let at-parameters = c .before .before .before .before in
+    set-up-of _ _ _ _ _ (at-parameters .parameters .ensures) (c .before .before .render-with .ensures)
 
 pub set-up-spec : {M : Type 1} → statement M
 set-up-spec =

@@ -34,13 +34,16 @@ move-to-requires c κs = search needs
 
 returns : tie.Need-returns
 returns c =
+    let at-draw-if = c .before .before .before in
+    let at-differs = at-draw-if .before in
     let told = c .before .before .before .before .before in
     let n = told .before .before .f32-as-i32 in
     let s = told .before .before .before .before in
     let same = back (n .result) (n .ok) in
     let held : mag (s .args .lfo .«phase_integral») < 2 ^ 31 = omega (arith, told .struct-told .given) in
-    scrubbed-from (s .args .lfo) (s .args .state) (s .args .sample) (n .ensures) same same same (back (s .args .lfo .«phase_integral») held)
-    (told .before .i32-as-f32 .ensures) (c .before .before .before .before .differs .ensures) (c .before .before .before .draw-if .ensures)
+    scrubbed-from (s .args .lfo) (s .args .state) (s .args .sample) (n .ensures) same same same
+    (back (s .args .lfo .«phase_integral») held)
+    (told .before .i32-as-f32 .ensures) (at-differs .differs .ensures) (at-draw-if .draw-if .ensures)
     (c .before .delay-scrub .ensures) (c .move-to .ensures)
 
 pub scrub-silent-spec : {M : Type 1} → statement M

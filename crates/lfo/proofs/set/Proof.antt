@@ -19,10 +19,17 @@ modulations-fit-requires c κs = search needs
 returns-2 : tie.Need-returns-2
 unfolding setAnswer
 returns-2 c =
-    simp (accepted (c .before .before .before .state-fits .ensures) (c .before .before .if1 .left), refused (c .before .modulations-fit .ensures) (c .if2 .taken))
+    let at-state-fits = c .before .before .before in
+    simp (
+      accepted (at-state-fits .state-fits .ensures) (c .before .before .if1 .left),
+      refused
+          (c .before .modulations-fit .ensures) (c .if2 .taken),
+    )
 
 adjust-requires : tie.Need-adjust-requires
-adjust-requires c κs = sensitivity-fits (c .before .before .before .before .args .modulations) 7 (accepted (c .before .modulations-fit .ensures) (c .if2 .left))
+adjust-requires c κs =
+    let at-start = c .before .before .before .before in
+    sensitivity-fits (at-start .args .modulations) 7 (accepted (c .before .modulations-fit .ensures) (c .if2 .left))
 
 returns-3 : tie.Need-returns-3
 unfolding setAnswer

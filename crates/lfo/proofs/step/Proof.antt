@@ -18,7 +18,12 @@ step-fits-requires c κs = search needs
 returns-2 : tie.Need-returns-2
 unfolding stepAnswer
 returns-2 c =
-    simp (accepted (c .before .before .before .state-fits .ensures) (c .before .before .if1 .left), refused (c .before .step-fits .ensures) (c .if2 .taken))
+    let at-state-fits = c .before .before .before in
+    simp (
+      accepted (at-state-fits .state-fits .ensures) (c .before .before .if1 .left),
+      refused
+          (c .before .step-fits .ensures) (c .if2 .taken),
+    )
 
 step-silent-requires : tie.Need-step-silent-requires
 step-silent-requires c κs = search needs

@@ -26,7 +26,9 @@ move-to-requires c κs = search needs
 
 returns : tie.Need-returns
 unfolding stepped decimal ofBits
-returns c = simp (c .move-to .ensures, c .before .wrap .ensures, c .before .before .delay-step .ensures, c .before .before .before .before .draw-if .ensures)
+returns c =
+    let at-draw-if = c .before .before .before .before in
+    simp (c .move-to .ensures, c .before .wrap .ensures, c .before .before .delay-step .ensures, at-draw-if .draw-if .ensures)
 
 pub step-silent-spec : {M : Type 1} → statement M
 step-silent-spec =

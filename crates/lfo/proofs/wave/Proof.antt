@@ -54,7 +54,9 @@ returns-4 c = simp (c .square .ensures, c .before .enum-told4 .given .1)
 
 returns-5 : tie.Need-returns-5
 unfolding waveOf
-returns-5 c = simp (c .sine-wave .ensures, c .before .before .lut-sine .ensures, c .before .before .before .enum-told5 .given .1)
+returns-5 c =
+    let at-enum-told5 = c .before .before .before in
+    simp (c .sine-wave .ensures, c .before .before .lut-sine .ensures, at-enum-told5 .enum-told5 .given .1)
 
 returns-6 : tie.Need-returns-6
 unfolding waveOf

@@ -22,17 +22,23 @@ truncating-f32-to-i64-requires c κs =
 same : (c : tie.After-truncating-f32-to-i64) → toZ w64 (ofZ w64 (c .truncating-f32-to-i64 .result)) ≡ toSigned 31 (c .before .before .before .args .x)
 unfolding ofBits neg
 same c =
-    let x = c .before .before .before .args .x in
-    toZ-ofZ w64 (c .truncating-f32-to-i64 .result) (record { sfits = c .truncating-f32-to-i64 .ok }) ∙ c .truncating-f32-to-i64 .ensures
-    ∙ narrows-signed 31 63 x (omega arith) (under 31 x (c .before .before .if1 .taken)) (at-least-neg 31 x (c .before .if2 .taken))
+    let at-start = c .before .before .before in
+    let x = at-start .args .x in
+    toZ-ofZ w64 (c .truncating-f32-to-i64 .result)
+    (record { sfits = c .truncating-f32-to-i64 .ok }) ∙ c .truncating-f32-to-i64 .ensures
+    ∙ narrows-signed 31 63 x (omega arith) (under 31 x (c .before .before .if1 .taken))
+    (at-least-neg 31 x (c .before .if2 .taken))
 
 cast-result : tie.Need-cast-result
-cast-result c = subst (SFits w32) (sym (same c)) (record { sfits = toSigned-in 31 (c .before .before .before .args .x) })
+cast-result c =
+    let at-start = c .before .before .before in
+    subst (SFits w32) (sym (same c)) (record { sfits = toSigned-in 31 (at-start .args .x) })
 
 returns : tie.Need-returns
 returns c =
+    let at-start = c .before .before .before in
     ap (λ (z : ℤ). toZ w32 (ofZ w32 z)) (same c)
-    ∙ toZ-ofZ w32 (toSigned 31 (c .before .before .before .args .x)) (record { sfits = toSigned-in 31 (c .before .before .before .args .x) })
+    ∙ toZ-ofZ w32 (toSigned 31 (at-start .args .x)) (record { sfits = toSigned-in 31 (at-start .args .x) })
 
 returns-2 : tie.Need-returns-2
 unfolding ofBits neg

@@ -13,14 +13,18 @@ use Rattle.numbers.proofs.f32_as_u32.Tie as tie
 float-to-float-result : tie.Need-float-to-float-result
 unfolding ofBits
 float-to-float-result c =
-    let x = c .before .before .before .args .x in
+    let at-start = c .before .before .before in
+    let x = at-start .args .x in
     widens x (c .row-known .given) (at-least-number 23 x (at-least 23 x (c .before .before .if1 .taken)))
 
 float-to-int-result : tie.Need-float-to-int-result
 unfolding ofBits
 float-to-int-result c =
-    let x = c .before .before .before .before .args .x in
-    fast-in x (c .before .row-known .given) (at-least 23 x (c .before .before .before .if1 .taken)) (under 32 x (c .before .before .if2 .taken))
+    let at-if1 = c .before .before .before in
+    let at-start = at-if1 .before in
+    let x = at-start .args .x in
+    fast-in x (c .before .row-known .given) (at-least 23 x (at-if1 .if1 .taken))
+    (under 32 x (c .before .before .if2 .taken))
 
 returns : tie.Need-returns
 returns c = search needs
@@ -40,11 +44,15 @@ truncating-f32-to-u64-requires c κs =
 same : (c : tie.After-truncating-f32-to-u64) → c .truncating-f32-to-u64 .result ≡ toUnsigned 32 (c .before .before .before .args .x)
 unfolding ofBits
 same c =
-    let x = c .before .before .before .args .x in
-    c .truncating-f32-to-u64 .ensures ∙ narrows 23 64 32 x (omega arith) (omega arith) (not-at-least 23 x (c .before .before .if1 .left))
+    let at-start = c .before .before .before in
+    let x = at-start .args .x in
+    c .truncating-f32-to-u64 .ensures ∙ narrows 23 64 32 x (omega arith) (omega arith)
+    (not-at-least 23 x (c .before .before .if1 .left))
 
 cast-result : tie.Need-cast-result
-cast-result c = omega (arith, same c, toUnsigned-lt 32 (c .before .before .before .args .x))
+cast-result c =
+    let at-start = c .before .before .before in
+    omega (arith, same c, toUnsigned-lt 32 (at-start .args .x))
 
 returns-3 : tie.Need-returns-3
 returns-3 c = same c

@@ -20,9 +20,11 @@ u32-as-i32-requires c κs = search needs
 returns : tie.Need-returns
 unfolding sumSigned
 returns c =
+    let at-i32-as-u32 = c .before .before .before in
     let s = c .before .before .before .before in
     by-bits sum32 (s .args .a) (s .args .b) (s .fits .a .sfits) (s .fits .b .sfits) (c .u32-as-i32 .ok)
-    (c .before .before .before .i32-as-u32 .ensures) (c .before .before .i32-as-u322 .ensures) (c .before .wrapping-add-u32 .ensures) (c .u32-as-i32 .ensures)
+    (at-i32-as-u32 .i32-as-u32 .ensures) (c .before .before .i32-as-u322 .ensures)
+    (c .before .wrapping-add-u32 .ensures) (c .u32-as-i32 .ensures)
 
 pub wrapping-add-i32-spec : {M : Type 1} → statement M
 wrapping-add-i32-spec =

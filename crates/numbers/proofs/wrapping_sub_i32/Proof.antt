@@ -20,9 +20,11 @@ u32-as-i32-requires c κs = search needs
 returns : tie.Need-returns
 unfolding differenceSigned
 returns c =
+    let at-i32-as-u32 = c .before .before .before in
     let s = c .before .before .before .before in
     by-bits difference32 (s .args .a) (s .args .b) (s .fits .a .sfits) (s .fits .b .sfits) (c .u32-as-i32 .ok)
-    (c .before .before .before .i32-as-u32 .ensures) (c .before .before .i32-as-u322 .ensures) (c .before .wrapping-sub-u32 .ensures) (c .u32-as-i32 .ensures)
+    (at-i32-as-u32 .i32-as-u32 .ensures) (c .before .before .i32-as-u322 .ensures)
+    (c .before .wrapping-sub-u32 .ensures) (c .u32-as-i32 .ensures)
 
 pub wrapping-sub-i32-spec : {M : Type 1} → statement M
 wrapping-sub-i32-spec =

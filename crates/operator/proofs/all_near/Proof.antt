@@ -45,7 +45,10 @@ loop-less c = omega arith
 
 -- src/lib.rt:199:5
 loop-again : tie.Need-loop-again Inv-loop μ-loop
-loop-again c = near-turn _ _ (c .before .before .before .loop .near) (c .is-near .result) (c .before .before .before .loop .inv) (c .before .before .loop-test .taken) (c .is-near .ensures)
+loop-again c =
+    let at-loop = c .before .before .before in
+    near-turn _ _ (at-loop .loop .near) (c .is-near .result) (at-loop .loop .inv) (c .before .before .loop-test .taken)
+    (c .is-near .ensures)
 
 -- src/lib.rt:194:1
 returns : tie.Need-returns Inv-loop μ-loop

@@ -15,7 +15,9 @@ all-near-requires c κs = search needs
 
 -- src/lib.rt:317:9
 near-external-requires : tie.Need-near-external-requires
-near-external-requires c κs = (sym (c .before .before .all-near .ensures) ∙ c .before .if1 .taken, c .before .before .before .before .before .pre)
+near-external-requires c κs =
+    let at-pre = c .before .before .before .before .before in
+    (sym (c .before .before .all-near .ensures) ∙ c .before .if1 .taken, at-pre .pre)
 
 -- src/lib.rt:317:9
 same-length : tie.Need-same-length

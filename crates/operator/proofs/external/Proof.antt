@@ -58,8 +58,11 @@ loop-less c = simp length-set (omega arith)
 loop-again : tie.Need-loop-again Inv-loop μ-loop
 unfolding entered kept through allMoved
 loop-again c =
-    turn-parts _ _ _ _ _ (c .before .before .before .before .before .before .loop .inv) (c .before .before .before .before .before .loop-test .taken)
-    (c .before .before .before .sound .ensures)
+    let at-sound = c .before .before .before in
+    let at-loop-test = at-sound .before .before in
+    let at-loop = at-loop-test .before in
+    turn-parts _ _ _ _ _ (at-loop .loop .inv) (at-loop-test .loop-test .taken)
+    (at-sound .sound .ensures)
     (rw (c .before .before .advance .ensures)) (refl) (c .mix .ensures)
 
 same-length : tie.Need-same-length Inv-loop μ-loop

@@ -85,9 +85,17 @@ loop-less c = omega arith
 -- src/lib.rt:237:5
 loop-again : tie.Need-loop-again Inv-loop μ-loop
 loop-again c =
-    let v = c .before .before .before .before .before .before .before .loop .inv in
-    let q = c .before .before .before .before .before .before .before .before .before .before .before .before .pre in
-    (running-turn _ _ _ _ _ _ _ _ _ (v .0) (c .before .before .before .before .before .before .loop-test .taken) (q .0) (q .2) (ap (λ (x : Float). x ⊗ c .before .before .before .before .before .before .before .loop .l .amplitude) (c .before .before .before .before .line .ensures)) (c .before .before .advance .ensures) (c .mix .ensures), omega arith)
+    let at-line = c .before .before .before .before in
+    let at-loop-test = at-line .before .before in
+    let at-loop = at-loop-test .before in
+    let at-pre = at-loop .before .before .before .before .before in
+    let v = at-loop .loop .inv in
+    let q = at-pre .pre in (
+      running-turn _ _ _ _ _ _ _ _ _ (v .0) (at-loop-test .loop-test .taken) (q .0) (q .2)
+          (ap (λ (x : Float). x ⊗ at-loop .loop .l .amplitude) (at-line .line .ensures))
+          (c .before .before .advance .ensures) (c .mix .ensures),
+      omega arith,
+    )
 
 -- src/lib.rt:221:1
 same-length : tie.Need-same-length Inv-loop μ-loop
@@ -96,7 +104,8 @@ same-length c = c .before .loop .inv .0 .going .size
 -- src/lib.rt:221:1
 returns : tie.Need-returns Inv-loop μ-loop
 returns c =
-    let a = c .before .before .before .before .before .before .args in
+    let at-start = c .before .before .before .before .before .before in
+    let a = at-start .args in
     running-done _ _ _ _ _ _ _ _ _ (c .before .loop .inv .0) (omega arith)
 
 pub lines-spec : {M : Type 1} → statement M

@@ -40,11 +40,18 @@ add-i c = omega arith
 
 -- src/lib.rt:296:5
 loop-less : tie.Need-loop-less Inv-loop μ-loop
-loop-less c = let g = c .before .before .chunk .ensures .0 .size in let p = c .before .before .before .before .before .portion .ensures in omega arith
+loop-less c =
+    let at-portion = c .before .before .before .before .before in
+    let g = c .before .before .chunk .ensures .0 .size in let p = at-portion .portion .ensures in omega arith
 
 -- src/lib.rt:296:5
 loop-again : tie.Need-loop-again Inv-loop μ-loop
-loop-again c = (going-on _ _ _ (c .before .before .before .before .before .before .before .loop .inv .0) (c .before .before .chunk .ensures .0), c .before .before .chunk .ensures .1)
+loop-again c =
+    let at-loop = c .before .before .before .before .before .before .before in (
+      going-on _ _ _ (at-loop .loop .inv .0)
+          (c .before .before .chunk .ensures .0),
+      c .before .before .chunk .ensures .1,
+    )
 
 -- src/lib.rt:282:1
 same-length : tie.Need-same-length Inv-loop μ-loop

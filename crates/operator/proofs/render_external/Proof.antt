@@ -10,7 +10,9 @@ same-length : tie.Need-same-length
 same-length c = search needs
 
 returns : tie.Need-returns
-returns c = rw (c .before .before .before .before .if1 .taken) (c .before .before .either-external .ensures)
+returns c =
+    let at-if1 = c .before .before .before .before in
+    rw (at-if1 .if1 .taken) (c .before .before .either-external .ensures)
 
 either-external-requires-2 : tie.Need-either-external-requires-2
 either-external-requires-2 c κs = search needs
@@ -19,7 +21,9 @@ same-length-2 : tie.Need-same-length-2
 same-length-2 c = search needs
 
 returns-2 : tie.Need-returns-2
-returns-2 c = rw (c .before .before .before .before .if1 .left) (c .before .before .either-external2 .ensures)
+returns-2 c =
+    let at-if1 = c .before .before .before .before in
+    rw (at-if1 .if1 .left) (c .before .before .either-external2 .ensures)
 
 pub render-external-spec : {M : Type 1} → statement M
 render-external-spec =

@@ -59,9 +59,14 @@ loop-less c = simp length-set (omega arith)
 loop-again : tie.Need-loop-again Inv-loop μ-loop
 unfolding entered kept through allMoved
 loop-again c =
-    turn-parts _ _ _ _ _ (c .before .before .before .before .before .before .before .loop .inv) (c .before .before .before .before .before .before .loop-test .taken)
-    (c .before .before .before .before .sound .ensures ∙ ap (sounded _ _) (c .before .before .before .before .before .feed .ensures))
-    (rw (c .before .before .before .advance .ensures)) (c .before .before .push .ensures) (c .mix .ensures)
+    let at-advance = c .before .before .before in
+    let at-sound = at-advance .before in
+    let at-feed = at-sound .before in
+    let at-loop-test = at-feed .before in
+    let at-loop = at-loop-test .before in
+    turn-parts _ _ _ _ _ (at-loop .loop .inv) (at-loop-test .loop-test .taken)
+    (at-sound .sound .ensures ∙ ap (sounded _ _) (at-feed .feed .ensures))
+    (rw (at-advance .advance .ensures)) (c .before .before .push .ensures) (c .mix .ensures)
 
 same-length : tie.Need-same-length Inv-loop μ-loop
 same-length c = c .before .loop .inv .size

@@ -42,7 +42,9 @@ push-requires : tie.Need-push-requires Inv-loop μ-loop
 push-requires c κs = search needs
 
 mul-mix : tie.Need-mul-mix Inv-loop μ-loop
-mul-mix c = omega (arith, c .before .before .before .before .before .before)
+mul-mix c =
+    let far = c .before .before .before .before .before .before in
+    omega (arith, far)
 
 slice-read-mix : tie.Need-slice-read-mix Inv-loop μ-loop
 slice-read-mix c = omega arith
@@ -51,13 +53,17 @@ mix-requires : tie.Need-mix-requires Inv-loop μ-loop
 mix-requires c κs = search needs
 
 mul-out : tie.Need-mul-out Inv-loop μ-loop
-mul-out c = omega (arith, c .before .before .before .before .before .before .before .before)
+mul-out c =
+    let far = c .before .before .before .before .before .before .before .before in
+    omega (arith, far)
 
 slice-write-out : tie.Need-slice-write-out Inv-loop μ-loop
 slice-write-out c = omega arith
 
 add-i : tie.Need-add-i Inv-loop μ-loop
-add-i c = omega (arith, c .before .before .before .before .before .before .before .before)
+add-i c =
+    let far = c .before .before .before .before .before .before .before .before in
+    omega (arith, far)
 
 loop-less : tie.Need-loop-less Inv-loop μ-loop
 loop-less c = simp length-set (omega arith)
@@ -65,9 +71,18 @@ loop-less c = simp length-set (omega arith)
 loop-again : tie.Need-loop-again Inv-loop μ-loop
 unfolding entered kept through allMoved
 loop-again c =
-    turn-parts _ _ _ _ _ (c .before .before .before .before .before .before .before .before .before .loop .inv) (c .before .before .before .before .before .before .before .before .loop-test .taken)
-    (c .before .before .before .before .before .sound2 .ensures ∙ ap (sounded _ _) (c .before .before .before .before .before .before .sound .ensures ∙ ap (sounded _ _) (c .before .before .before .before .before .before .before .feed .ensures)))
-    (rw (c .before .before .before .before .advance .ensures, c .before .before .before .advance2 .ensures)) (c .before .before .push .ensures) (c .mix .ensures)
+    let at-advance2 = c .before .before .before in
+    let at-advance = at-advance2 .before in
+    let at-sound2 = at-advance .before in
+    let at-sound = at-sound2 .before in
+    let at-feed = at-sound .before in
+    let at-loop-test = at-feed .before in
+    let at-loop = at-loop-test .before in
+    turn-parts _ _ _ _ _ (at-loop .loop .inv) (at-loop-test .loop-test .taken)
+    (at-sound2 .sound2 .ensures ∙ ap (sounded _ _)
+    (at-sound .sound .ensures ∙ ap (sounded _ _) (at-feed .feed .ensures)))
+    (rw (at-advance .advance .ensures, at-advance2 .advance2 .ensures)) (c .before .before .push .ensures)
+    (c .mix .ensures)
 
 same-length : tie.Need-same-length Inv-loop μ-loop
 same-length c = c .before .loop .inv .size

@@ -42,7 +42,9 @@ shared-slice-read-modulate-near c = omega arith
 
 -- src/lib.rt:215:17
 modulate-near-requires : tie.Need-modulate-near-requires Inv-loop μ-loop
-modulate-near-requires c κs = near-at _ _ (c .before .before .before .before .before .pre .0) (omega arith)
+modulate-near-requires c κs =
+    let at-pre = c .before .before .before .before .before in
+    near-at _ _ (at-pre .pre .0) (omega arith)
 
 -- src/lib.rt:215:9
 mul-at : tie.Need-mul-at Inv-loop μ-loop
@@ -63,14 +65,21 @@ loop-less c = omega arith
 -- src/lib.rt:213:5
 loop-again : tie.Need-loop-again Inv-loop μ-loop
 loop-again c =
-    let v = c .before .before .before .before .loop .inv in
-    (placing-turn _ _ _ _ _ (c .before .before .before .before .loop .p) _ _ _ (v .0) (omega arith) (c .before .before .wrapping-add-u32 .ensures) (c .modulate-near .ensures), set-length (c .before .before .before .before .loop .at) _ _ (v .1), omega arith)
+    let at-loop = c .before .before .before .before in
+    let v = at-loop .loop .inv in (
+      placing-turn _ _ _ _ _ (at-loop .loop .p) _ _ _ (v .0) (omega arith)
+          (c .before .before .wrapping-add-u32 .ensures) (c .modulate-near .ensures),
+      set-length (at-loop .loop .at) _ _
+          (v .1),
+      omega arith,
+    )
 
 -- src/lib.rt:207:1
 returns : tie.Need-returns Inv-loop μ-loop
 returns c =
+    let at-start = c .before .before .before in
     let v = c .before .loop .inv in
-    (subst (λ (k : ℕ). Placed (now (c .before .before .before .args .modulation)) (c .before .before .before .args .i) k (c .before .before .before .args .phase) (c .before .before .before .args .step) (c .before .loop .at)) (omega arith) (v .0 .before), v .1)
+    (subst (λ (k : ℕ). Placed (now (at-start .args .modulation)) (at-start .args .i) k (at-start .args .phase) (at-start .args .step) (c .before .loop .at)) (omega arith) (v .0 .before), v .1)
 
 pub set-phases-spec : {M : Type 1} → statement M
 set-phases-spec =

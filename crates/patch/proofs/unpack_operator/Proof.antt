@@ -62,7 +62,15 @@ field-requires-6 c κs = search needs
 
 returns : tie.Need-returns
 unfolding operatorWith readIn bitsIn later operatorField
-returns c = rw (c .field6 .ensures, c .before .whole2 .ensures, c .before .before .field5 .ensures, c .before .before .before .field4 .ensures, c .before .before .before .before .whole .ensures, c .before .before .before .before .before .field3 .ensures, c .before .before .before .before .before .before .field2 .ensures, c .before .before .before .before .before .before .before .field .ensures, c .before .before .before .before .before .before .before .before .unpack-scaling .ensures, c .before .before .before .before .before .before .before .before .before .unpack-stages .ensures)
+returns c =
+    let at-field4 = c .before .before .before in
+    let at-whole = at-field4 .before in
+    let at-field3 = at-whole .before in
+    let at-field2 = at-field3 .before in
+    let at-field = at-field2 .before in
+    let at-unpack-scaling = at-field .before in
+    let at-unpack-stages = at-unpack-scaling .before in
+    rw (c .field6 .ensures, c .before .whole2 .ensures, c .before .before .field5 .ensures, at-field4 .field4 .ensures, at-whole .whole .ensures, at-field3 .field3 .ensures, at-field2 .field2 .ensures, at-field .field .ensures, at-unpack-scaling .unpack-scaling .ensures, at-unpack-stages .unpack-stages .ensures)
 
 pub unpack-operator-spec : {M : Type 1} → statement M
 unpack-operator-spec =

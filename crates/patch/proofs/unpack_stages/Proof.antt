@@ -81,7 +81,14 @@ element-write-e-8 c = search needs
 
 returns : tie.Need-returns
 unfolding operatorWith envelopeWith readIn bitsIn later envelopeField
-returns c = rw (c .before .before .before .before .before .before .before .before .before .fresh-operator .ensures, c .before .before .before .before .before .before .before .whole .ensures, c .before .before .before .before .before .before .whole2 .ensures, c .before .before .before .before .before .whole3 .ensures, c .before .before .before .before .whole4 .ensures, c .before .before .before .whole5 .ensures, c .before .before .whole6 .ensures, c .before .whole7 .ensures, c .whole8 .ensures, add-zero)
+returns c =
+    let at-whole5 = c .before .before .before in
+    let at-whole4 = at-whole5 .before in
+    let at-whole3 = at-whole4 .before in
+    let at-whole2 = at-whole3 .before in
+    let at-whole = at-whole2 .before in
+    let at-fresh-operator = at-whole .before .before in
+    rw (at-fresh-operator .fresh-operator .ensures, at-whole .whole .ensures, at-whole2 .whole2 .ensures, at-whole3 .whole3 .ensures, at-whole4 .whole4 .ensures, at-whole5 .whole5 .ensures, c .before .before .whole6 .ensures, c .before .whole7 .ensures, c .whole8 .ensures, add-zero)
 
 pub unpack-stages-spec : {M : Type 1} → statement M
 unpack-stages-spec =

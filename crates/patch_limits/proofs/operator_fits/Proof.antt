@@ -14,7 +14,9 @@ scaling-fits-requires : tie.Need-scaling-fits-requires
 scaling-fits-requires c κs = search needs
 
 returns : tie.Need-returns
-returns c = cc (operator-fits (c .before .before .before .before .before .before .before .before .args .t1))
+returns c =
+    let at-start = c .before .before .before .before .before .before .before .before in
+    cc (operator-fits (at-start .args .t1))
 
 pub operator-fits-spec : {M : Type 1} → statement M
 operator-fits-spec =

@@ -43,7 +43,12 @@ operator-fits-requires-6 c κs = search needs
 
 returns : tie.Need-returns
 unfolding operatorsFit operatorAt noOperator scalingWith
-returns c = rw (c .operator-fits6 .ensures, c .before .before .operator-fits5 .ensures, c .before .before .before .before .operator-fits4 .ensures, c .before .before .before .before .before .before .operator-fits3 .ensures, c .before .before .before .before .before .before .before .before .operator-fits2 .ensures, c .before .before .before .before .before .before .before .before .before .before .operator-fits .ensures)
+returns c =
+    let at-operator-fits4 = c .before .before .before .before in
+    let at-operator-fits3 = at-operator-fits4 .before .before in
+    let at-operator-fits2 = at-operator-fits3 .before .before in
+    let at-operator-fits = at-operator-fits2 .before .before in
+    rw (c .operator-fits6 .ensures, c .before .before .operator-fits5 .ensures, at-operator-fits4 .operator-fits4 .ensures, at-operator-fits3 .operator-fits3 .ensures, at-operator-fits2 .operator-fits2 .ensures, at-operator-fits .operator-fits .ensures)
 
 pub operators-fit-spec : {M : Type 1} → statement M
 operators-fit-spec =

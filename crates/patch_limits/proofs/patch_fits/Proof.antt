@@ -20,7 +20,9 @@ name-fits-requires : tie.Need-name-fits-requires
 name-fits-requires c κs = search needs
 
 returns : tie.Need-returns
-returns c = cc (patch-fits (c .before .before .before .before .before .before .before .before .before .before .before .before .before .args .t1))
+returns c =
+    let at-start = c .before .before .before .before .before .before .before .before .before .before .before .before .before in
+    cc (patch-fits (at-start .args .t1))
 
 pub patch-fits-spec : {M : Type 1} → statement M
 patch-fits-spec =

@@ -31,31 +31,49 @@ array-read-t29 : tie.Need-array-read-t29
 array-read-t29 c = search needs
 
 mul-t30 : tie.Need-mul-t30
-mul-t30 c = omega (arith, operator-low _ (c .before .before .before .before .before .pre))
+mul-t30 c =
+    let at-pre = c .before .before .before .before .before in
+    omega (arith, operator-low _ (at-pre .pre))
 
 add-t31 : tie.Need-add-t31
-add-t31 c = omega (arith, operator-low _ (c .before .before .before .before .before .before .pre))
+add-t31 c =
+    let at-pre = c .before .before .before .before .before .before in
+    omega (arith, operator-low _ (at-pre .pre))
 
 mul-t32 : tie.Need-mul-t32
-mul-t32 c = omega (arith, operator-low _ (c .before .before .before .before .before .before .before .pre))
+mul-t32 c =
+    let at-pre = c .before .before .before .before .before .before .before in
+    omega (arith, operator-low _ (at-pre .pre))
 
 add-t33 : tie.Need-add-t33
-add-t33 c = omega (arith, operator-low _ (c .before .before .before .before .before .before .before .before .pre))
+add-t33 c =
+    let at-pre = c .before .before .before .before .before .before .before .before in
+    omega (arith, operator-low _ (at-pre .pre))
 
 mul-t34 : tie.Need-mul-t34
-mul-t34 c = omega (arith, operator-low _ (c .before .before .before .before .before .before .before .before .before .pre))
+mul-t34 c =
+    let at-pre = c .before .before .before .before .before .before .before .before .before in
+    omega (arith, operator-low _ (at-pre .pre))
 
 add-t35 : tie.Need-add-t35
-add-t35 c = omega (arith, operator-low _ (c .before .before .before .before .before .before .before .before .before .before .pre))
+add-t35 c =
+    let at-pre = c .before .before .before .before .before .before .before .before .before .before in
+    omega (arith, operator-low _ (at-pre .pre))
 
 mul-t36 : tie.Need-mul-t36
-mul-t36 c = omega (arith, operator-low _ (c .before .before .before .before .before .before .before .before .before .before .before .pre))
+mul-t36 c =
+    let at-pre = c .before .before .before .before .before .before .before .before .before .before .before in
+    omega (arith, operator-low _ (at-pre .pre))
 
 add-t37 : tie.Need-add-t37
-add-t37 c = omega (arith, operator-low _ (c .before .before .before .before .before .before .before .before .before .before .before .before .pre))
+add-t37 c =
+    let at-pre = c .before .before .before .before .before .before .before .before .before .before .before .before in
+    omega (arith, operator-low _ (at-pre .pre))
 
 returns : tie.Need-returns
-returns c = sym (operator-bytes _ (c .before .before .before .before .before .before .before .before .before .before .before .before .pre))
+returns c =
+    let at-pre = c .before .before .before .before .before .before .before .before .before .before .before .before in
+    sym (operator-bytes _ (at-pre .pre))
 
 pub operator-bytes-spec : {M : Type 1} → statement M
 operator-bytes-spec =

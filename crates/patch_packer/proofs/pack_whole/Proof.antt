@@ -29,7 +29,10 @@ array-copy-out-put-operator c = omega arith
 
 put-operator-requires : tie.Need-put-operator-requires Inv-loop μ-loop
 unfolding operatorAt noOperator scalingWith
-put-operator-requires c κs = (omega arith, operator-fits _ (c .before .before .before .before .before .pre) (c .before .before .before .loop .i) (omega arith))
+put-operator-requires c κs =
+    let at-loop = c .before .before .before in
+    let at-pre = at-loop .before .before in
+    (omega arith, operator-fits _ (at-pre .pre) (at-loop .loop .i) (omega arith))
 
 add-i : tie.Need-add-i Inv-loop μ-loop
 add-i c = omega arith
@@ -39,15 +42,23 @@ loop-less c = omega arith
 
 loop-again : tie.Need-loop-again Inv-loop μ-loop
 unfolding operatorAt noOperator scalingWith
-loop-again c = (omega arith, next-block (c .before .before .before .before .before .before .args .p .op) (c .before .before .before .before .loop .i) _ _ (c .before .before .before .before .loop .inv .1) (c .put-operator .ensures))
+loop-again c =
+    let at-loop = c .before .before .before .before in
+    let at-start = at-loop .before .before in (
+      omega arith,
+      next-block (at-start .args .p .op) (at-loop .loop .i) _ _ (at-loop .loop .inv .1)
+          (c .put-operator .ensures),
+    )
 
 put-shared-requires : tie.Need-put-shared-requires Inv-loop μ-loop
 put-shared-requires c κs = search needs
 
 returns : tie.Need-returns Inv-loop μ-loop
 returns c =
-    let six : c .before .before .before .loop .i ≡ 6 = omega arith in
-    pasted (c .before .before .before .before .before .args .p) _ _ _ six (c .before .before .before .loop .inv .1) (c .put-shared .ensures)
+    let at-loop = c .before .before .before in
+    let at-start = at-loop .before .before in
+    let six : at-loop .loop .i ≡ 6 = omega arith in
+    pasted (at-start .args .p) _ _ _ six (at-loop .loop .inv .1) (c .put-shared .ensures)
 
 pub pack-whole-spec : {M : Type 1} → statement M
 pack-whole-spec =

@@ -21,7 +21,11 @@ put-requires c κs = search needs
 
 returns : tie.Need-returns
 unfolding operatorBytes bytesOf
-returns c = c .put .ensures ∙ ap (λ (b : List ℕ). paste (now (c .before .before .before .before .args .out)) (c .before .before .before .before .args .at) b (length b)) (c .before .before .before .operator-bytes .ensures)
+returns c =
+    let at-operator-bytes = c .before .before .before in
+    let at-start = at-operator-bytes .before in
+    c .put .ensures ∙ ap (λ (b : List ℕ). paste (now (at-start .args .out)) (at-start .args .at) b (length b))
+    (at-operator-bytes .operator-bytes .ensures)
 
 pub put-operator-spec : {M : Type 1} → statement M
 put-operator-spec =

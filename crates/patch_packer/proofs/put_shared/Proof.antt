@@ -21,7 +21,11 @@ put-requires c κs = search needs
 
 returns : tie.Need-returns
 unfolding sharedBytes bytesOf
-returns c = c .put .ensures ∙ ap (λ (b : List ℕ). paste (now (c .before .before .before .before .args .out)) 102 b (length b)) (c .before .before .before .shared-bytes .ensures)
+returns c =
+    let at-shared-bytes = c .before .before .before in
+    let at-start = at-shared-bytes .before in
+    c .put .ensures ∙ ap (λ (b : List ℕ). paste (now (at-start .args .out)) 102 b (length b))
+    (at-shared-bytes .shared-bytes .ensures)
 
 pub put-shared-spec : {M : Type 1} → statement M
 put-shared-spec =

@@ -31,22 +31,34 @@ array-read-t30 : tie.Need-array-read-t30
 array-read-t30 c = search needs
 
 mul-t31 : tie.Need-mul-t31
-mul-t31 c = omega (arith, shared-low _ (c .before .before .before .before .before .before .pre))
+mul-t31 c =
+    let at-pre = c .before .before .before .before .before .before in
+    omega (arith, shared-low _ (at-pre .pre))
 
 add-t32 : tie.Need-add-t32
-add-t32 c = omega (arith, shared-low _ (c .before .before .before .before .before .before .before .pre))
+add-t32 c =
+    let at-pre = c .before .before .before .before .before .before .before in
+    omega (arith, shared-low _ (at-pre .pre))
 
 mul-t33 : tie.Need-mul-t33
-mul-t33 c = omega (arith, shared-low _ (c .before .before .before .before .before .before .before .before .pre))
+mul-t33 c =
+    let at-pre = c .before .before .before .before .before .before .before .before in
+    omega (arith, shared-low _ (at-pre .pre))
 
 add-t34 : tie.Need-add-t34
-add-t34 c = omega (arith, shared-low _ (c .before .before .before .before .before .before .before .before .before .pre))
+add-t34 c =
+    let at-pre = c .before .before .before .before .before .before .before .before .before in
+    omega (arith, shared-low _ (at-pre .pre))
 
 mul-t35 : tie.Need-mul-t35
-mul-t35 c = omega (arith, shared-low _ (c .before .before .before .before .before .before .before .before .before .before .pre))
+mul-t35 c =
+    let at-pre = c .before .before .before .before .before .before .before .before .before .before in
+    omega (arith, shared-low _ (at-pre .pre))
 
 add-t36 : tie.Need-add-t36
-add-t36 c = omega (arith, shared-low _ (c .before .before .before .before .before .before .before .before .before .before .pre))
+add-t36 c =
+    let at-pre = c .before .before .before .before .before .before .before .before .before .before in
+    omega (arith, shared-low _ (at-pre .pre))
 
 array-read-t39 : tie.Need-array-read-t39
 array-read-t39 c = search needs
@@ -79,7 +91,9 @@ array-read-t66 : tie.Need-array-read-t66
 array-read-t66 c = search needs
 
 returns : tie.Need-returns
-returns c = sym (shared-bytes _ (c .before .before .before .before .before .before .before .before .before .before .pre))
+returns c =
+    let at-pre = c .before .before .before .before .before .before .before .before .before .before in
+    sym (shared-bytes _ (at-pre .pre))
 
 pub shared-bytes-spec : {M : Type 1} → statement M
 shared-bytes-spec =

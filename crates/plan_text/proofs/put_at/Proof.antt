@@ -14,7 +14,9 @@ put-requires c κs = search needs
 
 returns : tie.Need-returns
 unfolding atText
-returns c = rw (eq-eqb _ 2 (c .before .before .before .if1 .taken)) (c .put .ensures)
+returns c =
+    let at-if1 = c .before .before .before in
+    rw (eq-eqb _ 2 (at-if1 .if1 .taken)) (c .put .ensures)
 
 slice-aggregate-put-2 : tie.Need-slice-aggregate-put-2
 slice-aggregate-put-2 c = search needs
@@ -33,7 +35,12 @@ put-requires-3 c κs = search needs
 
 returns-2 : tie.Need-returns-2
 unfolding atText
-returns-2 c = rw (ne-eqb _ 2 (c .before .before .before .before .before .before .before .if1 .left)) (then _ _ _ _ _ _ _ _ (c .before .before .before .before .put2 .ensures) (rw (c .before .before .before .digit-of .ensures) at (c .put3 .ensures)))
+returns-2 c =
+    let at-digit-of = c .before .before .before in
+    let at-put2 = at-digit-of .before in
+    let at-if1 = at-put2 .before .before .before in
+    rw (ne-eqb _ 2 (at-if1 .if1 .left))
+    (then _ _ _ _ _ _ _ _ (at-put2 .put2 .ensures) (rw (at-digit-of .digit-of .ensures) at (c .put3 .ensures)))
 
 pub put-at-spec : {M : Type 1} → statement M
 put-at-spec =

@@ -47,9 +47,17 @@ loop-less c = omega arith
 
 loop-again : tie.Need-loop-again Inv-loop μ-loop
 loop-again c =
+    let at-hex-digit2 = c .before .before .before in
+    let at-hex-digit = at-hex-digit2 .before .before in
+    let at-loop-test = at-hex-digit .before .before in
     let at = c .before .before .before .before .before .before .before .before in
-    let put = rw (c .before .before .before .before .before .hex-digit .ensures, c .before .before .before .hex-digit2 .ensures) at (c .put .ensures) in
-    (omega arith, omega (arith, put .next-place), rw (bytes-more (now (at .before .before .args .bytes)) (at .loop .k) (c .before .before .before .before .before .before .before .loop-test .taken)) (then _ _ _ _ _ _ _ _ (at .loop .inv .2) put))
+    let put = rw (at-hex-digit .hex-digit .ensures, at-hex-digit2 .hex-digit2 .ensures) at (c .put .ensures) in (
+      omega arith,
+      omega (arith, put .next-place),
+      rw
+          (bytes-more (now (at .before .before .args .bytes)) (at .loop .k) (at-loop-test .loop-test .taken))
+          (then _ _ _ _ _ _ _ _ (at .loop .inv .2) put),
+    )
 
 returns : tie.Need-returns Inv-loop μ-loop
 returns c =

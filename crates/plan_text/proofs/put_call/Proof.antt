@@ -13,14 +13,26 @@ put-source-requires : tie.Need-put-source-requires
 put-source-requires c κs = search needs
 
 put-numbers-requires-2 : tie.Need-put-numbers-requires-2
-put-numbers-requires-2 c κs = omega (arith, c .before .before .before .put-numbers .ensures .next-place, c .before .put-source .ensures .next-place, source-size (c .before .before .before .before .before .args .c .input))
+put-numbers-requires-2 c κs =
+    let at-put-numbers = c .before .before .before in
+    let at-start = at-put-numbers .before .before in
+    omega (arith, at-put-numbers .put-numbers .ensures .next-place, c .before .put-source .ensures .next-place, source-size (at-start .args .c .input))
 
 put-way-requires : tie.Need-put-way-requires
-put-way-requires c κs = omega (arith, c .before .before .before .before .before .put-numbers .ensures .next-place, c .before .before .before .put-source .ensures .next-place, c .before .put-numbers2 .ensures .next-place, source-size (c .before .before .before .before .before .before .before .args .c .input))
+put-way-requires c κs =
+    let at-put-source = c .before .before .before in
+    let at-put-numbers = at-put-source .before .before in
+    let at-start = at-put-numbers .before .before in
+    omega (arith, at-put-numbers .put-numbers .ensures .next-place, at-put-source .put-source .ensures .next-place, c .before .put-numbers2 .ensures .next-place, source-size (at-start .args .c .input))
 
 returns : tie.Need-returns
 unfolding callText
-returns c = then _ _ _ _ _ _ _ _ (c .before .before .before .before .before .before .put-numbers .ensures) (then _ _ _ _ _ _ _ _ (c .before .before .before .before .put-source .ensures) (then _ _ _ _ _ _ _ _ (c .before .before .put-numbers2 .ensures) (c .put-way .ensures)))
+returns c =
+    let at-put-source = c .before .before .before .before in
+    let at-put-numbers = at-put-source .before .before in
+    then _ _ _ _ _ _ _ _ (at-put-numbers .put-numbers .ensures)
+    (then _ _ _ _ _ _ _ _ (at-put-source .put-source .ensures)
+    (then _ _ _ _ _ _ _ _ (c .before .before .put-numbers2 .ensures) (c .put-way .ensures)))
 
 pub put-call-spec : {M : Type 1} → statement M
 put-call-spec =

@@ -22,7 +22,10 @@ put-requires-2 c κs = search needs
 
 returns : tie.Need-returns
 unfolding countText
-returns c = then _ _ _ _ _ _ _ _ (c .before .before .before .before .put .ensures) (rw (c .before .before .before .digit-of .ensures) at (c .put2 .ensures))
+returns c =
+    let at-digit-of = c .before .before .before in
+    let at-put = at-digit-of .before in
+    then _ _ _ _ _ _ _ _ (at-put .put .ensures) (rw (at-digit-of .digit-of .ensures) at (c .put2 .ensures))
 
 pub put-count-spec : {M : Type 1} → statement M
 put-count-spec =

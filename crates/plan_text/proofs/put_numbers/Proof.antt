@@ -17,7 +17,10 @@ put-requires : tie.Need-put-requires
 put-requires c κs = search needs
 
 returns : tie.Need-returns
-returns c = rw (sym (c .before .before .before .before .digit-of .ensures), sym (c .before .before .before .digit-of2 .ensures)) (c .put .ensures)
+returns c =
+    let at-digit-of2 = c .before .before .before in
+    let at-digit-of = at-digit-of2 .before in
+    rw (sym (at-digit-of .digit-of .ensures), sym (at-digit-of2 .digit-of2 .ensures)) (c .put .ensures)
 
 pub put-numbers-spec : {M : Type 1} → statement M
 put-numbers-spec =

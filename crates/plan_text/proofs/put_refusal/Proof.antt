@@ -25,7 +25,12 @@ put-at-requires c κs = search needs
 
 returns : tie.Need-returns
 unfolding refusalText
-returns c = then _ _ _ _ _ _ _ _ (c .before .before .before .before .before .before .put .ensures) (then _ _ _ _ _ _ _ _ (rw (c .before .before .before .before .before .digit-of .ensures) at (c .before .before .put2 .ensures)) (c .put-at .ensures))
+returns c =
+    let at-digit-of = c .before .before .before .before .before in
+    let at-put = at-digit-of .before in
+    then _ _ _ _ _ _ _ _ (at-put .put .ensures)
+    (then _ _ _ _ _ _ _ _ (rw (at-digit-of .digit-of .ensures) at (c .before .before .put2 .ensures))
+    (c .put-at .ensures))
 
 pub put-refusal-spec : {M : Type 1} → statement M
 put-refusal-spec =

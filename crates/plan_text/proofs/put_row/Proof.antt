@@ -20,11 +20,25 @@ slice-aggregate-put-2 : tie.Need-slice-aggregate-put-2
 slice-aggregate-put-2 c = search needs
 
 put-requires-2 : tie.Need-put-requires-2
-put-requires-2 c κs = omega (arith, c .before .before .before .before .put .ensures .next-place, c .before .before .put-bytes .ensures .next-place, bytes-size (now (c .before .before .before .before .before .before .before .before .args .bytes)), c .before .before .before .before .before .before .before .before .pre)
+put-requires-2 c κs =
+    let at-put = c .before .before .before .before in
+    let at-start = at-put .before .before .before .before in
+    omega (
+      arith,
+      at-put .put .ensures .next-place,
+      c .before .before .put-bytes .ensures .next-place,
+      bytes-size
+          (now (at-start .args .bytes)),
+      at-start .pre,
+    )
 
 returns : tie.Need-returns
 unfolding rowText
-returns c = then _ _ _ _ _ _ _ _ (c .before .before .before .before .before .put .ensures) (then _ _ _ _ _ _ _ _ (c .before .before .before .put-bytes .ensures) (c .put2 .ensures))
+returns c =
+    let at-put-bytes = c .before .before .before in
+    let at-put = at-put-bytes .before .before in
+    then _ _ _ _ _ _ _ _ (at-put .put .ensures)
+    (then _ _ _ _ _ _ _ _ (at-put-bytes .put-bytes .ensures) (c .put2 .ensures))
 
 pub put-row-spec : {M : Type 1} → statement M
 put-row-spec =

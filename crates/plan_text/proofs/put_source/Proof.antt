@@ -13,7 +13,9 @@ put-requires c κs = search needs
 
 returns : tie.Need-returns
 unfolding sourceText
-returns c = rw (eq-eqb _ 0 (c .before .before .before .if1 .taken)) (c .put .ensures)
+returns c =
+    let at-if1 = c .before .before .before in
+    rw (eq-eqb _ 0 (at-if1 .if1 .taken)) (c .put .ensures)
 
 slice-aggregate-put-2 : tie.Need-slice-aggregate-put-2
 slice-aggregate-put-2 c = search needs
@@ -23,7 +25,10 @@ put-requires-2 c κs = search needs
 
 returns-2 : tie.Need-returns-2
 unfolding sourceText
-returns-2 c = rw (ne-eqb _ 0 (c .before .before .before .before .if1 .left), eq-eqb _ 3 (c .before .before .before .if2 .taken)) (c .put2 .ensures)
+returns-2 c =
+    let at-if2 = c .before .before .before in
+    let at-if1 = at-if2 .before in
+    rw (ne-eqb _ 0 (at-if1 .if1 .left), eq-eqb _ 3 (at-if2 .if2 .taken)) (c .put2 .ensures)
 
 slice-aggregate-put-3 : tie.Need-slice-aggregate-put-3
 slice-aggregate-put-3 c = search needs
@@ -33,7 +38,10 @@ put-requires-3 c κs = search needs
 
 returns-3 : tie.Need-returns-3
 unfolding sourceText
-returns-3 c = rw (ne-eqb _ 0 (c .before .before .before .before .if1 .left), ne-eqb _ 3 (c .before .before .before .if2 .left)) (c .put3 .ensures)
+returns-3 c =
+    let at-if2 = c .before .before .before in
+    let at-if1 = at-if2 .before in
+    rw (ne-eqb _ 0 (at-if1 .if1 .left), ne-eqb _ 3 (at-if2 .if2 .left)) (c .put3 .ensures)
 
 pub put-source-spec : {M : Type 1} → statement M
 put-source-spec =

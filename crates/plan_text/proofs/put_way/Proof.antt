@@ -12,7 +12,9 @@ put-requires c κs = search needs
 
 returns : tie.Need-returns
 unfolding wayText
-returns c = rw (c .before .before .before .if1 .taken) (c .put .ensures)
+returns c =
+    let at-if1 = c .before .before .before in
+    rw (at-if1 .if1 .taken) (c .put .ensures)
 
 slice-aggregate-put-2 : tie.Need-slice-aggregate-put-2
 slice-aggregate-put-2 c = search needs
@@ -22,7 +24,9 @@ put-requires-2 c κs = search needs
 
 returns-2 : tie.Need-returns-2
 unfolding wayText
-returns-2 c = rw (c .before .before .before .if1 .left) (c .put2 .ensures)
+returns-2 c =
+    let at-if1 = c .before .before .before in
+    rw (at-if1 .if1 .left) (c .put2 .ensures)
 
 pub put-way-spec : {M : Type 1} → statement M
 put-way-spec =

@@ -24,12 +24,15 @@ float-to-float-turns c =
 
 float-to-int-turns : tie.Need-float-to-int-turns
 unfolding ofBits neg
-float-to-int-turns c = near-turned (c .before .before .before .args .pm) (c .before .before .if1 .taken) .accepted
+float-to-int-turns c =
+    let at-start = c .before .before .before in
+    near-turned (at-start .args .pm) (c .before .before .if1 .taken) .accepted
 
 cast-result : tie.Need-cast-result
 unfolding ofBits neg
 cast-result c =
-    let t = near-turned (c .before .before .before .args .pm) (c .before .before .if1 .taken) in
+    let at-start = c .before .before .before in
+    let t = near-turned (at-start .args .pm) (c .before .before .if1 .taken) in
     subst (λ (z : ℤ). T (nonNeg z) × Fits w64 (natAbs z)) (sym (t .cast)) (tt, record { fits = t .small })
 
 cast-result-2 : tie.Need-cast-result-2
@@ -37,7 +40,9 @@ cast-result-2 c = search needs
 
 returns : tie.Need-returns
 unfolding stepsOf decimal ofBits neg div round
-returns c = ap (λ (z : ℤ). natAbs z % 4294967296) (near-turned (c .before .before .before .args .pm) (c .before .before .if1 .taken) .cast)
+returns c =
+    let at-start = c .before .before .before in
+    ap (λ (z : ℤ). natAbs z % 4294967296) (near-turned (at-start .args .pm) (c .before .before .if1 .taken) .cast)
 
 steps-requires : tie.Need-steps-requires
 steps-requires c κs = search needs

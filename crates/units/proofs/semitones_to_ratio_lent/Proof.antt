@@ -26,9 +26,11 @@ semitones-to-ratio-requires c κs =
 
 returns : tie.Need-returns
 returns c =
+    let at-lower = c .before .before .before in
+    let far = at-lower .before in
     let s = c .before .before .before .before .before .before in
-    inside (now (s .args .high)) (now (s .args .low)) (s .args .semitones) (near (c .before .before .before .before))
-    (c .before .before .before .lower .ensures) (c .before .before .raise .ensures) (c .before .semitones-to-ratio .ensures)
+    inside (now (s .args .high)) (now (s .args .low)) (s .args .semitones) (near (far))
+    (at-lower .lower .ensures) (c .before .before .raise .ensures) (c .before .semitones-to-ratio .ensures)
 
 returns-2 : tie.Need-returns-2
 unfolding ofBits neg decimal minusDecimal

@@ -15,8 +15,11 @@ semitones-to-ratio-lent-requires c κs = search needs
 
 returns : tie.Need-returns
 returns c =
-    made (c .before .before .before .before .before .args .semitones) (c .before .before .before .before .lut-pitch-ratio-high .ensures)
-    (c .before .before .before .lut-pitch-ratio-low .ensures) (c .semitones-to-ratio-lent .ensures)
+    let at-lut-pitch-ratio-low = c .before .before .before in
+    let at-lut-pitch-ratio-high = at-lut-pitch-ratio-low .before in
+    let at-start = at-lut-pitch-ratio-high .before in
+    made (at-start .args .semitones) (at-lut-pitch-ratio-high .lut-pitch-ratio-high .ensures)
+    (at-lut-pitch-ratio-low .lut-pitch-ratio-low .ensures) (c .semitones-to-ratio-lent .ensures)
 
 pub semitones-to-ratio-safe-spec : {M : Type 1} → statement M
 semitones-to-ratio-safe-spec =

@@ -51,8 +51,9 @@ shared-slice-read-b c = search needs
 
 returns-3 : tie.Need-returns-3
 returns-3 c =
+    let at-f32-as-usize = c .before .before .before .before in
     let s = c .before .before .before .before .before .before .before in
-    between (now (s .args .table)) (s .args .place) _ (c .before .before .before .before .f32-as-usize .ensures) _
+    between (now (s .args .table)) (s .args .place) _ (at-f32-as-usize .f32-as-usize .ensures) _
     (c .before .before .whole-part .ensures) (omega arith)
 
 pub line-spec : {M : Type 1} → statement M

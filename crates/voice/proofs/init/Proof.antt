@@ -26,14 +26,30 @@ voice-with-requires-2 c κs = search needs
 
 returns-2 : tie.Need-returns-2
 unfolding initAnswer noVoice decimal ofBits
-returns-2 c = simp (c .voice-with2 .ensures, accepted (c .before .before .before .before .is-counted .ensures) (c .before .before .before .if1 .left), refused (c .before .before .sample-rate-fits .ensures) (c .before .if2 .taken))
+returns-2 c =
+    let at-if1 = c .before .before .before in
+    let at-is-counted = at-if1 .before in
+    simp (
+      c .voice-with2 .ensures,
+      accepted (at-is-counted .is-counted .ensures) (at-if1 .if1 .left),
+      refused
+          (c .before .before .sample-rate-fits .ensures) (c .before .if2 .taken),
+    )
 
 voice-with-requires-3 : tie.Need-voice-with-requires-3
 voice-with-requires-3 c κs = search needs
 
 returns-3 : tie.Need-returns-3
 unfolding initAnswer freshVoice decimal ofBits
-returns-3 c = simp (c .voice-with3 .ensures, accepted (c .before .before .before .before .is-counted .ensures) (c .before .before .before .if1 .left), accepted (c .before .before .sample-rate-fits .ensures) (c .before .if2 .left))
+returns-3 c =
+    let at-if1 = c .before .before .before in
+    let at-is-counted = at-if1 .before in
+    simp (
+      c .voice-with3 .ensures,
+      accepted (at-is-counted .is-counted .ensures) (at-if1 .if1 .left),
+      accepted
+          (c .before .before .sample-rate-fits .ensures) (c .before .if2 .left),
+    )
 
 pub init-spec : {M : Type 1} → statement M
 init-spec =

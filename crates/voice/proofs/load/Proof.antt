@@ -11,7 +11,9 @@ with-patch-requires : tie.Need-with-patch-requires
 with-patch-requires c κs = search needs
 
 returns-2 : tie.Need-returns-2
-returns-2 c = load-accepted _ _ _ (c .before .before .before .if1 .left) (c .with-patch .ensures)
+returns-2 c =
+    let at-if1 = c .before .before .before in
+    load-accepted _ _ _ (at-if1 .if1 .left) (c .with-patch .ensures)
 
 pub load-spec : {M : Type 1} → statement M
 load-spec = tie.close (tie.spec returns with-patch-requires returns-2)

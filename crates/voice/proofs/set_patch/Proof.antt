@@ -15,7 +15,10 @@ check-requires : tie.Need-check-requires
 check-requires c κs = search needs
 
 returns-2 : tie.Need-returns-2
-returns-2 c = set-patch-6 _ _ _ (accepted (c .before .before .before .state-fits .ensures) (c .before .before .if1 .left)) (check-refused _ (c .before .check .ensures) (c .if2 .taken))
+returns-2 c =
+    let at-state-fits = c .before .before .before in
+    set-patch-6 _ _ _ (accepted (at-state-fits .state-fits .ensures) (c .before .before .if1 .left))
+    (check-refused _ (c .before .check .ensures) (c .if2 .taken))
 
 cast-compile : tie.Need-cast-compile
 cast-compile c = search needs
@@ -28,7 +31,12 @@ load-requires c κs = search needs
 
 returns-3 : tie.Need-returns-3
 returns-3 c =
-    set-patch-on _ _ _ (accepted (c .before .before .before .before .before .before .state-fits .ensures) (c .before .before .before .before .before .if1 .left)) (check-accepted _ (c .before .before .before .before .check .ensures) (c .before .before .before .if2 .left)) (c .before .compile .ensures) (c .load .ensures)
+    let at-if2 = c .before .before .before in
+    let at-check = at-if2 .before in
+    let at-if1 = at-check .before in
+    let at-state-fits = at-if1 .before in
+    set-patch-on _ _ _ (accepted (at-state-fits .state-fits .ensures) (at-if1 .if1 .left))
+    (check-accepted _ (at-check .check .ensures) (at-if2 .if2 .left)) (c .before .compile .ensures) (c .load .ensures)
 
 pub set-patch-spec : {M : Type 1} → statement M
 set-patch-spec =

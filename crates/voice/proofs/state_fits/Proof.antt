@@ -15,21 +15,44 @@ stages-fit-requires : tie.Need-stages-fit-requires
 stages-fit-requires c κs = search needs
 
 returns-2 : tie.Need-returns-2
-returns-2 c = no-stages _ (accepted (c .before .before .before .before .is-counted .ensures) (c .before .before .before .if1 .left)) (refused (c .before .stages-fit .ensures) (c .if2 .taken))
+returns-2 c =
+    let at-if1 = c .before .before .before in
+    let at-is-counted = at-if1 .before in
+    no-stages _ (accepted (at-is-counted .is-counted .ensures) (at-if1 .if1 .left))
+    (refused (c .before .stages-fit .ensures) (c .if2 .taken))
 
 returns-3 : tie.Need-returns-3
-returns-3 c = no-pitch _ (accepted (c .before .before .before .before .before .before .before .is-counted .ensures) (c .before .before .before .before .before .before .if1 .left)) (accepted (c .before .before .before .before .stages-fit .ensures) (c .before .before .before .if2 .left)) (c .if3 .taken)
+returns-3 c =
+    let at-if2 = c .before .before .before in
+    let at-stages-fit = at-if2 .before in
+    let at-if1 = at-stages-fit .before .before in
+    let at-is-counted = at-if1 .before in
+    no-pitch _ (accepted (at-is-counted .is-counted .ensures) (at-if1 .if1 .left))
+    (accepted (at-stages-fit .stages-fit .ensures) (at-if2 .if2 .left)) (c .if3 .taken)
 
 patch-sound-requires : tie.Need-patch-sound-requires
 patch-sound-requires c κs = search needs
 
 returns-4 : tie.Need-returns-4
 returns-4 c =
-    with-patch _ (accepted (c .before .before .before .before .before .before .before .before .before .before .before .before .is-counted .ensures) (c .before .before .before .before .before .before .before .before .before .before .before .if1 .left)) (accepted (c .before .before .before .before .before .before .before .before .before .stages-fit .ensures) (c .before .before .before .before .before .before .before .before .if2 .left)) (c .before .before .before .before .before .if3 .left) (c .before .before .before .before .if4 .taken) (c .patch-sound .ensures)
+    let at-if4 = c .before .before .before .before in
+    let at-if3 = at-if4 .before in
+    let at-if2 = at-if3 .before .before .before in
+    let at-stages-fit = at-if2 .before in
+    let at-if1 = at-stages-fit .before .before in
+    let at-is-counted = at-if1 .before in
+    with-patch _ (accepted (at-is-counted .is-counted .ensures) (at-if1 .if1 .left))
+    (accepted (at-stages-fit .stages-fit .ensures) (at-if2 .if2 .left)) (at-if3 .if3 .left) (at-if4 .if4 .taken)
+    (c .patch-sound .ensures)
 
 returns-5 : tie.Need-returns-5
 returns-5 c =
-    without-patch _ (accepted (c .before .before .before .before .before .before .before .before .is-counted .ensures) (c .before .before .before .before .before .before .before .if1 .left)) (accepted (c .before .before .before .before .before .stages-fit .ensures) (c .before .before .before .before .if2 .left)) (c .before .if3 .left) (c .if4 .left)
+    let at-if2 = c .before .before .before .before in
+    let at-stages-fit = at-if2 .before in
+    let at-if1 = at-stages-fit .before .before in
+    let at-is-counted = at-if1 .before in
+    without-patch _ (accepted (at-is-counted .is-counted .ensures) (at-if1 .if1 .left))
+    (accepted (at-stages-fit .stages-fit .ensures) (at-if2 .if2 .left)) (c .before .if3 .left) (c .if4 .left)
 
 pub state-fits-spec : {M : Type 1} → statement M
 state-fits-spec =

@@ -21,7 +21,11 @@ with-patch-requires : tie.Need-with-patch-requires
 with-patch-requires c κs = search needs
 
 returns-2 : tie.Need-returns-2
-returns-2 c = take-patch-on _ (accepted (c .before .before .before .before .state-fits .ensures) (c .before .before .before .if1 .left)) (c .before .before .new .ensures) (c .before .no-plan .ensures) (c .with-patch .ensures)
+returns-2 c =
+    let at-if1 = c .before .before .before in
+    let at-state-fits = at-if1 .before in
+    take-patch-on _ (accepted (at-state-fits .state-fits .ensures) (at-if1 .if1 .left))
+    (c .before .before .new .ensures) (c .before .no-plan .ensures) (c .with-patch .ensures)
 
 pub take-patch-spec : {M : Type 1} → statement M
 take-patch-spec =

@@ -21,7 +21,9 @@ no-plan-requires c κs = search needs
 
 returns : tie.Need-returns
 unfolding voiceWith decimal ofBits six
-returns c = simp (c .no-plan .ensures, c .before .new2 .ensures, c .before .before .new .ensures, c .before .before .before .init .ensures)
+returns c =
+    let at-init = c .before .before .before in
+    simp (c .no-plan .ensures, c .before .new2 .ensures, c .before .before .new .ensures, at-init .init .ensures)
 
 pub voice-with-spec : {M : Type 1} → statement M
 voice-with-spec =

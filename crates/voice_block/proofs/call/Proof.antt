@@ -11,7 +11,9 @@ same-length : tie.Need-same-length
 same-length c = search needs
 
 returns : tie.Need-returns
-returns c = (c .before .before .call-none .ensures .0 (c .before .before .before .before .before .before .before .before .before .before .before .args .scale), c .before .before .call-none .ensures .1)
+returns c =
+    let at-start = c .before .before .before .before .before .before .before .before .before .before .before in
+    (c .before .before .call-none .ensures .0 (at-start .args .scale), c .before .before .call-none .ensures .1)
 
 call-external-requires : tie.Need-call-external-requires
 call-external-requires c κs = search needs
@@ -23,7 +25,10 @@ same-length-3 : tie.Need-same-length-3
 same-length-3 c = search needs
 
 returns-2 : tie.Need-returns-2
-returns-2 c = (c .before .before .before .before .call-external .ensures .0 (c .before .before .before .before .before .before .before .before .before .before .before .before .before .before .before .before .args .scale), c .before .before .before .before .call-external .ensures .1)
+returns-2 c =
+    let at-call-external = c .before .before .before .before in
+    let at-start = at-call-external .before .before .before .before .before .before .before .before .before .before .before .before in
+    (at-call-external .call-external .ensures .0 (at-start .args .scale), at-call-external .call-external .ensures .1)
 
 call-feedback-requires : tie.Need-call-feedback-requires
 call-feedback-requires c κs = search needs

@@ -71,7 +71,9 @@ cast-i : tie.Need-cast-i
 cast-i c = search needs
 
 put-back-requires : tie.Need-put-back-requires
-put-back-requires c κs = omega (arith, c .before .before .before .before .before .before .before .before .before .before .before .before .before .before .before .before .before .before .before .before .before .before .before)
+put-back-requires c κs =
+    let far = c .before .before .before .before .before .before .before .before .before .before .before .before .before .before .before .before .before .before .before .before .before .before .before in
+    omega (arith, far)
 
 same-length : tie.Need-same-length
 same-length c = search needs
@@ -81,22 +83,32 @@ same-length-2 c = search needs
 
 returns : tie.Need-returns
 returns c =
+    let at-render-external = c .before .before .before .before .before .before .before in
+    let at-single-of = at-render-external .before .before .before .before in
+    let at-start2 = at-single-of .before .before .before in
+    let at-copy-aside = at-start2 .before .before .before in
+    let at-start = at-copy-aside .before .before .before .before in
     let back = c .put-back in
-    let rendered = c .before .before .before .before .before .before .before .render-external in
-    let of = c .before .before .before .before .before .before .before .before .before .before .before .single-of in
-    let start = c .before .before .before .before .before .before .before .before .before .before .before .before .before .before .start2 in
+    let rendered = at-render-external .render-external in
+    let of = at-single-of .single-of in
+    let start = at-start2 .start2 in
     let at = c .before .before .before .before .before .before .before .before .before .before .before .before .before .before .before .before .before .before .before .before .before .before .before .before in
     let call = at .args .c in
-    let aside = c .before .before .before .before .before .before .before .before .before .before .before .before .before .before .before .before .before .copy-aside in
-    let from = c .before .before .before .before .before .before .before .before .before .before .before .before .before .before .before .before .before .before .before .before .before .start in
-    let modulation = aside-at (at .args .n) (call .input) (from .result) (now (at .args .block)) (at .pre .0 .input) (at .pre .1 .whole) (from .ensures .0) (aside .last .1 .0) (aside .ensures) in
+    let aside = at-copy-aside .copy-aside in
+    let from = at-start .start in
+    let modulation = aside-at (at .args .n) (call .input) (from .result) (now (at .args .block)) (at .pre .0 .input)
+    (at .pre .1 .whole) (from .ensures .0) (aside .last .1 .0) (aside .ensures) in
     let v = stateOf (now (at .args .p)) (now (at .args .a)) (now (at .args .f)) in
     let n : call .n ≡ 1 = at .pre .0 .single (λ z. omega arith) in
     let g = settingOf (now (at .args .steps)) (now (at .args .targets)) (at .args .ramp) in (
-      λ scale. call-law (now (at .args .lut)) (g scale) call v (at .args .n) (start .result) (now (at .args .block)) (rendered .last .1 .1 .1 .1 .0)
-          (external _) (one (of .result)) (one (rendered .result)) _ (at .pre .0 .output) (at .pre .1 .whole) (start .ensures .0)
-          (source-external (g scale) call _ (at .pre .3) (at .pre .4) _ modulation) (chain-as (g scale) v _ _ _ _ (of .ensures scale) n)
-          (quiet-back (now (at .args .lut)) (external _) _ (g scale) _ _ _ _ _ (rendered .result) _ _ (external-keeps _ _ _ _) (of .ensures scale) (rendered .ensures .1) (back .ensures .0))
+      λ scale. call-law (now (at .args .lut)) (g scale) call v (at .args .n) (start .result) (now (at .args .block))
+          (rendered .last .1 .1 .1 .1 .0)
+          (external _) (one (of .result)) (one (rendered .result)) _ (at .pre .0 .output) (at .pre .1 .whole)
+          (start .ensures .0)
+          (source-external (g scale) call _ (at .pre .3) (at .pre .4) _ modulation)
+          (chain-as (g scale) v _ _ _ _ (of .ensures scale) n)
+          (quiet-back (now (at .args .lut)) (external _) _ (g scale) _ _ _ _ _ (rendered .result) _ _
+          (external-keeps _ _ _ _) (of .ensures scale) (rendered .ensures .1) (back .ensures .0))
           (rendered .kept .1 .1 .1 .1 .0) (rendered .ensures),
       still-lent _ _ _ _ _ (back .ensures .1) (back .ensures .2) (at .pre .5),
     )

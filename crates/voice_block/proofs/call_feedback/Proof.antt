@@ -43,17 +43,23 @@ same-length c = search needs
 returns : tie.Need-returns
 unfolding settingOf
 returns c =
+    let at-render-feedback = c .before .before .before .before .before .before in
+    let at-single-of = at-render-feedback .before .before in
+    let at-start = at-single-of .before .before .before .before in
     let back = c .single-back in
-    let rendered = c .before .before .before .before .before .before .render-feedback in
-    let of = c .before .before .before .before .before .before .before .before .single-of in
-    let start = c .before .before .before .before .before .before .before .before .before .before .before .before .start in
+    let rendered = at-render-feedback .render-feedback in
+    let of = at-single-of .single-of in
+    let start = at-start .start in
     let at = c .before .before .before .before .before .before .before .before .before .before .before .before .before .before in
     let call = at .args .c in
     let v = stateOf (now (at .args .p)) (now (at .args .a)) (now (at .args .f)) in
     let g = settingOf (now (at .args .steps)) (now (at .args .targets)) (at .args .ramp) (at .args .scale) in (
-      call-law (now (at .args .lut)) g call v (at .args .n) (start .result) (now (at .args .block)) (rendered .last .1 .1 .1 .1 .0)
-          (feedback (at .args .scale)) (one (of .result)) (one (rendered .result)) _ (at .pre .0 .output) (at .pre .1 .whole) (start .ensures .0)
-          (source-feedback g call _ (at .pre .2)) (chain-as g v _ _ _ _ (of .ensures (at .args .scale)) (at .pre .3)) (back .ensures .0) (rendered .kept .1 .1 .1 .1 .0) (rendered .ensures),
+      call-law (now (at .args .lut)) g call v (at .args .n) (start .result) (now (at .args .block))
+          (rendered .last .1 .1 .1 .1 .0)
+          (feedback (at .args .scale)) (one (of .result)) (one (rendered .result)) _ (at .pre .0 .output)
+          (at .pre .1 .whole) (start .ensures .0)
+          (source-feedback g call _ (at .pre .2)) (chain-as g v _ _ _ _ (of .ensures (at .args .scale)) (at .pre .3))
+          (back .ensures .0) (rendered .kept .1 .1 .1 .1 .0) (rendered .ensures),
       back .ensures .1,
     )
 

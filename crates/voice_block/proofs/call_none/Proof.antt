@@ -47,19 +47,25 @@ same-length c = search needs
 
 returns : tie.Need-returns
 returns c =
+    let at-render-none = c .before .before .before .before .before .before .before in
+    let at-single-of = at-render-none .before .before in
+    let at-start = at-single-of .before .before .before in
     let back = c .put-back in
-    let rendered = c .before .before .before .before .before .before .before .render-none in
-    let of = c .before .before .before .before .before .before .before .before .before .single-of in
-    let start = c .before .before .before .before .before .before .before .before .before .before .before .before .start in
+    let rendered = at-render-none .render-none in
+    let of = at-single-of .single-of in
+    let start = at-start .start in
     let at = c .before .before .before .before .before .before .before .before .before .before .before .before .before .before in
     let call = at .args .c in
     let v = stateOf (now (at .args .p)) (now (at .args .a)) (now (at .args .f)) in
     let n : call .n ≡ 1 = at .pre .0 .single (λ z. omega arith) in
     let g = settingOf (now (at .args .steps)) (now (at .args .targets)) (at .args .ramp) in (
-      λ scale. call-law (now (at .args .lut)) (g scale) call v (at .args .n) (start .result) (now (at .args .block)) (rendered .last .1 .1 .1 .0)
-          none (one (of .result)) (one (rendered .result)) _ (at .pre .0 .output) (at .pre .1 .whole) (start .ensures .0)
+      λ scale. call-law (now (at .args .lut)) (g scale) call v (at .args .n) (start .result) (now (at .args .block))
+          (rendered .last .1 .1 .1 .0)
+          none (one (of .result)) (one (rendered .result)) _ (at .pre .0 .output) (at .pre .1 .whole)
+          (start .ensures .0)
           (source-none (g scale) call _ (at .pre .2)) (chain-as (g scale) v _ _ _ _ (of .ensures scale) n)
-          (quiet-back (now (at .args .lut)) none _ (g scale) _ _ _ _ _ (rendered .result) _ _ (none-keeps _ _ _) (of .ensures scale) (rendered .ensures .1) (back .ensures .0))
+          (quiet-back (now (at .args .lut)) none _ (g scale) _ _ _ _ _ (rendered .result) _ _ (none-keeps _ _ _)
+          (of .ensures scale) (rendered .ensures .1) (back .ensures .0))
           (rendered .kept .1 .1 .1 .0) (rendered .ensures),
       still-lent _ _ _ _ _ (back .ensures .1) (back .ensures .2) (at .pre .3),
     )

@@ -20,10 +20,13 @@ put-feedback-requires c κs = search needs
 
 returns : tie.Need-returns
 returns c =
-    let put = c .before .before .before .before .before .before .before .put-back .ensures in
-    let next = c .before .before .before .put-back2 .ensures in
+    let at-put-back2 = c .before .before .before in
+    let at-put-back = at-put-back2 .before .before .before .before in
+    let at-pre = at-put-back .before .before .before .before in
+    let put = at-put-back .put-back .ensures in
+    let next = at-put-back2 .put-back2 .ensures in
     let fed = c .put-feedback .ensures in
-    let lent = c .before .before .before .before .before .before .before .before .before .before .before .pre .1 in (
+    let lent = at-pre .pre .1 in (
       pair-back _ _ _ _ _ _ _ _ _ _ _ _ (put .0) (next .0) (fed .0),
       record { six = next .1 ∙ put .1 ∙ lent .six; as-many = next .2 ∙ put .2 ∙ lent .as-many; two = fed .1 },
     )

@@ -34,7 +34,16 @@ element-copy-out-c : tie.Need-element-copy-out-c Inv-loop μ-loop
 element-copy-out-c c = omega arith
 
 call-requires : tie.Need-call-requires Inv-loop μ-loop
-call-requires c κs = (c .before .before .before .before .before .before .before .before .before .before .pre .0 .calls (c .before .before .before .before .before .before .before .loop .k) (c .before .before .before .before .before .before .loop-test .taken), record { small = omega arith; whole = omega arith }, omega arith, c .before .before .before .before .before .before .before .loop .inv .4)
+call-requires c κs =
+    let at-loop-test = c .before .before .before .before .before .before in
+    let at-loop = at-loop-test .before in
+    let at-pre = at-loop .before .before .before in (
+      at-pre .pre .0 .calls (at-loop .loop .k)
+          (at-loop-test .loop-test .taken),
+      record { small = omega arith; whole = omega arith },
+      omega arith,
+      at-loop .loop .inv .4,
+    )
 
 add-k : tie.Need-add-k Inv-loop μ-loop
 add-k c = omega arith
@@ -45,12 +54,17 @@ loop-less c = omega arith
 loop-again : tie.Need-loop-again Inv-loop μ-loop
 unfolding calledUpTo
 loop-again c =
-    let one = c .before .before .before .before .call in
+    let at-call = c .before .before .before .before in
+    let far = at-call .before .before .before .before .before .before .before in
+    let at-start = far .before .before .before .before in
+    let one = at-call .call in
     let at = c .before .before .before .before .before .before .before .before .before .before .before .before in
-    let start = c .before .before .before .before .before .before .before .before .before .before .before .before .before .before .before .args in
+    let start = at-start .args in
     let g = settingOf (now (start .steps)) (now (start .targets)) (start .ramp) (start .scale) in (
-      omega (arith, c .before .before .before .before .before .before .before .before .before .before .before),
-      rw (add-one (at .loop .k)) (one .ensures .0 ∙ ap (called (now (start .lut)) g (getD (start .t6 .calls) (at .loop .k) noCall)) (at .loop .inv .1)),
+      omega (arith, far),
+      rw (add-one (at .loop .k))
+          (one .ensures .0 ∙ ap (called (now (start .lut)) g (getD (start .t6 .calls) (at .loop .k) noCall))
+          (at .loop .inv .1)),
       one .kept .1 .1 .1 .1 .1 .1 .1 .1 .1 .1 .1 .0 ∙ at .loop .inv .2,
       one .kept .1 .1 .1 .1 .1 .1 .1 .1 .1 .1 .0 ∙ at .loop .inv .3,
       one .ensures .1,
@@ -64,7 +78,8 @@ same-length-2 c = c .before .loop .inv .2
 
 returns : tie.Need-returns Inv-loop μ-loop
 returns c =
-    let k : c .before .loop .k ≡ c .before .before .before .before .args .t6 .count = omega arith in
+    let at-start = c .before .before .before .before in
+    let k : c .before .loop .k ≡ at-start .args .t6 .count = omega arith in
     ((rw k at (c .before .loop .inv .1)), c .before .loop .inv .4)
 
 pub run-calls-spec : {M : Type 1} → statement M

@@ -32,14 +32,20 @@ same-length c = search needs
 
 returns : tie.Need-returns
 returns c =
+    let at-run = c .before .before .before in
+    let at-levels-of = at-run .before .before .before .before .before .before .before .before in
+    let at-phases-of = at-levels-of .before in
+    let at-feedback-scale = at-phases-of .before in
+    let at-ramp-scale = at-feedback-scale .before in
     let made = c .operators-of in
-    let run = c .before .before .before .run in
-    let levels = c .before .before .before .before .before .before .before .before .before .before .before .levels-of in
-    let phases = c .before .before .before .before .before .before .before .before .before .before .before .before .phases-of in
-    let scale = c .before .before .before .before .before .before .before .before .before .before .before .before .before .feedback-scale in
-    let ramp = c .before .before .before .before .before .before .before .before .before .before .before .before .before .before .ramp-scale in
+    let run = at-run .run in
+    let levels = at-levels-of .levels-of in
+    let phases = at-phases-of .phases-of in
+    let scale = at-feedback-scale .feedback-scale in
+    let ramp = at-ramp-scale .ramp-scale in
     let at = c .before .before .before .before .before .before .before .before .before .before .before .before .before .before .before .before in
-    plan-law _ _ _ _ _ (at .args .v) _ _ _ _ _ _ _ _ _ _ _ refl (ramp .ensures) (scale .ensures) (at .pre .2) (run .kept .1 .1 .1 .1 .1 .1 .1 .1 .1 .1 .0)
+    plan-law _ _ _ _ _ (at .args .v) _ _ _ _ _ _ _ _ _ _ _ refl (ramp .ensures) (scale .ensures) (at .pre .2)
+    (run .kept .1 .1 .1 .1 .1 .1 .1 .1 .1 .1 .0)
     (phases .ensures) (levels .ensures) (made .ensures) (run .ensures .0)
 
 pub run-plan-spec : {M : Type 1} → statement M

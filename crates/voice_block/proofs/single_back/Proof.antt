@@ -14,9 +14,11 @@ put-feedback-requires c κs = search needs
 
 returns : tie.Need-returns
 returns c =
-    let put = c .before .before .before .put-back .ensures in
+    let at-put-back = c .before .before .before in
+    let at-pre = at-put-back .before .before .before .before in
+    let put = at-put-back .put-back .ensures in
     let fed = c .put-feedback .ensures in
-    let lent = c .before .before .before .before .before .before .before .pre .1 in (
+    let lent = at-pre .pre .1 in (
       single-back _ _ _ _ _ _ _ _ _ (put .0) (fed .0),
       record { six = put .1 ∙ lent .six; as-many = put .2 ∙ lent .as-many; two = fed .1 },
     )

@@ -26,11 +26,15 @@ put-feedback-requires c κs = search needs
 
 returns : tie.Need-returns
 returns c =
-    let put = c .before .before .before .before .before .before .before .before .before .before .before .put-back .ensures in
-    let next = c .before .before .before .before .before .before .before .put-back2 .ensures in
-    let last = c .before .before .before .put-back3 .ensures in
+    let at-put-back3 = c .before .before .before in
+    let at-put-back2 = at-put-back3 .before .before .before .before in
+    let at-put-back = at-put-back2 .before .before .before .before in
+    let at-pre = at-put-back .before .before .before .before in
+    let put = at-put-back .put-back .ensures in
+    let next = at-put-back2 .put-back2 .ensures in
+    let last = at-put-back3 .put-back3 .ensures in
     let fed = c .put-feedback .ensures in
-    let lent = c .before .before .before .before .before .before .before .before .before .before .before .before .before .before .before .pre .1 in (
+    let lent = at-pre .pre .1 in (
       triple-back _ _ _ _ _ _ _ _ _ _ _ _ _ _ _ (put .0) (next .0) (last .0) (fed .0),
       record { six = last .1 ∙ next .1 ∙ put .1 ∙ lent .six; as-many = last .2 ∙ next .2 ∙ put .2 ∙ lent .as-many; two = fed .1 },
     )

@@ -24,7 +24,10 @@ feedback-of-requires : tie.Need-feedback-of-requires
 feedback-of-requires c κs = search needs
 
 returns : tie.Need-returns
-returns c = λ scale. triple-law _ _ _ _ _ _ (c .feedback-of .ensures) _ (c .before .before .before .take-out .ensures scale) _ (c .before .before .take-out2 .ensures scale) _ (c .before .take-out3 .ensures scale)
+returns c =
+    let at-take-out = c .before .before .before in
+    λ scale. triple-law _ _ _ _ _ _ (c .feedback-of .ensures) _ (at-take-out .take-out .ensures scale) _
+    (c .before .before .take-out2 .ensures scale) _ (c .before .take-out3 .ensures scale)
 
 pub triple-of-spec : {M : Type 1} → statement M
 triple-of-spec =

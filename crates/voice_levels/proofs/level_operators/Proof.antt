@@ -12,8 +12,10 @@ sound-levels-requires c κs = search needs
 
 returns : tie.Need-returns
 returns c =
-    let a = c .before .before .before .args in
-    sounded-is-leveled (a .g) (a .op) (a .ratios) (a .level-headroom) (a .row) (a .operator-envelope) (a .operators) (c .before .before .raise-operators .ensures) (c .sound-levels .ensures)
+    let at-start = c .before .before .before in
+    let a = at-start .args in
+    sounded-is-leveled (a .g) (a .op) (a .ratios) (a .level-headroom) (a .row) (a .operator-envelope) (a .operators)
+    (c .before .before .raise-operators .ensures) (c .sound-levels .ensures)
 
 pub level-operators-spec : {M : Type 1} → statement M
 level-operators-spec = tie.close (tie.spec raise-operators-requires sound-levels-requires returns)

@@ -20,7 +20,9 @@ f32-min-requires c κs = search needs
 
 returns : tie.Need-returns
 unfolding scalingOf decimal ofBits
-returns c = simp (c .f32-min .ensures, c .before .brightness-of .ensures, c .before .before .before .before .keyboard-scaling .ensures)
+returns c =
+    let at-keyboard-scaling = c .before .before .before .before in
+    simp (c .f32-min .ensures, c .before .brightness-of .ensures, at-keyboard-scaling .keyboard-scaling .ensures)
 
 pub scaling-spec : {M : Type 1} → statement M
 scaling-spec =

@@ -20,7 +20,9 @@ pow-2-fast-requires-2 c κs = search needs
 
 returns : tie.Need-returns
 unfolding timingFor decimal ofBits
-returns c = simp (c .pow-2-fast2 .ensures, c .before .f32-abs .ensures, c .before .before .pow-2-fast .ensures, c .before .before .before .u32-as-f32 .ensures)
+returns c =
+    let at-u32-as-f32 = c .before .before .before in
+    simp (c .pow-2-fast2 .ensures, c .before .f32-abs .ensures, c .before .before .pow-2-fast .ensures, at-u32-as-f32 .u32-as-f32 .ensures)
 
 pub timing-for-spec : {M : Type 1} → statement M
 timing-for-spec =

@@ -17,7 +17,11 @@ strike-requires : tie.Need-strike-requires
 strike-requires c κs = search needs
 
 returns : tie.Need-returns
-returns c = begun-of _ _ _ _ _ (c .before .before .before .before .before .before .before .timing-for .ensures) (c .before .before .before .before .before .follow .ensures) (c .before .before .note-frequency .ensures) (c .before .strike .ensures)
+returns c =
+    let at-follow = c .before .before .before .before .before in
+    let at-timing-for = at-follow .before .before in
+    begun-of _ _ _ _ _ (at-timing-for .timing-for .ensures) (at-follow .follow .ensures)
+    (c .before .before .note-frequency .ensures) (c .before .strike .ensures)
 
 pub begin-spec : {M : Type 1} → statement M
 begin-spec =

@@ -45,8 +45,15 @@ restart-requires-6 c κs = search needs
 
 returns : tie.Need-returns
 returns c =
-    entering-anew _ _ (c .before .before .before .before .before .before .before .before .before .before .before .before .before .before .note-on .ensures) (c .before .before .before .before .before .before .before .before .before .before .before .before .if1 .taken)
-    (all-restarted _ (c .before .before .before .before .before .before .before .before .before .before .restart .ensures) (c .before .before .before .before .before .before .before .before .restart2 .ensures) (c .before .before .before .before .before .before .restart3 .ensures) (c .before .before .before .before .restart4 .ensures) (c .before .before .restart5 .ensures) (c .restart6 .ensures))
+    let at-restart4 = c .before .before .before .before in
+    let at-restart3 = at-restart4 .before .before in
+    let at-restart2 = at-restart3 .before .before in
+    let at-restart = at-restart2 .before .before in
+    let at-if1 = at-restart .before .before in
+    let at-note-on = at-if1 .before .before in
+    entering-anew _ _ (at-note-on .note-on .ensures) (at-if1 .if1 .taken)
+    (all-restarted _ (at-restart .restart .ensures) (at-restart2 .restart2 .ensures) (at-restart3 .restart3 .ensures)
+    (at-restart4 .restart4 .ensures) (c .before .before .restart5 .ensures) (c .restart6 .ensures))
 
 returns-2 : tie.Need-returns-2
 returns-2 c = entering-on _ _ (c .before .before .note-on .ensures) (c .if1 .left)

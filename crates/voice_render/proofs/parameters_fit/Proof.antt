@@ -27,7 +27,11 @@ between-requires-6 c κs = search needs
 
 returns : tie.Need-returns
 unfolding parametersFit decimal minusDecimal ofBits neg
-returns c = rw (c .between6 .ensures, c .before .between5 .ensures, c .before .before .between4 .ensures, c .before .before .before .between3 .ensures, c .before .before .before .before .between2 .ensures, c .before .before .before .before .before .between .ensures) refl
+returns c =
+    let at-between3 = c .before .before .before in
+    let at-between2 = at-between3 .before in
+    let at-between = at-between2 .before in
+    rw (c .between6 .ensures, c .before .between5 .ensures, c .before .before .between4 .ensures, at-between3 .between3 .ensures, at-between2 .between2 .ensures, at-between .between .ensures) refl
 
 pub parameters-fit-spec : {M : Type 1} → statement M
 parameters-fit-spec =

@@ -20,7 +20,12 @@ same-length : tie.Need-same-length
 same-length c = search needs
 
 returns : tie.Need-returns
-returns c = with-tables _ _ _ (c .before .before .before .before .before .before .before .before .before .sine-pairs .ensures) (c .before .before .before .before .before .before .before .before .lut-pitch-ratio-high .ensures) (c .before .before .before .before .before .before .before .lut-pitch-ratio-low .ensures) (c .before .before .render-with .ensures)
+returns c =
+    let at-lut-pitch-ratio-low = c .before .before .before .before .before .before .before in
+    let at-lut-pitch-ratio-high = at-lut-pitch-ratio-low .before in
+    let at-sine-pairs = at-lut-pitch-ratio-high .before in
+    with-tables _ _ _ (at-sine-pairs .sine-pairs .ensures) (at-lut-pitch-ratio-high .lut-pitch-ratio-high .ensures)
+    (at-lut-pitch-ratio-low .lut-pitch-ratio-low .ensures) (c .before .before .render-with .ensures)
 
 pub render-spec : {M : Type 1} → statement M
 render-spec =

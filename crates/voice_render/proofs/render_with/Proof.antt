@@ -17,28 +17,65 @@ block-fits-requires : tie.Need-block-fits-requires
 block-fits-requires c κs = search needs
 
 returns-2 : tie.Need-returns-2
-returns-2 c = render-8 _ _ _ _ _ _ (accepted (c .before .before .before .state-fits .ensures) (c .before .before .if1 .left)) (refused (c .before .block-fits .ensures) (c .if2 .taken))
+returns-2 c =
+    let at-state-fits = c .before .before .before in
+    render-8 _ _ _ _ _ _ (accepted (at-state-fits .state-fits .ensures) (c .before .before .if1 .left))
+    (refused (c .before .block-fits .ensures) (c .if2 .taken))
 
 parameters-fit-requires : tie.Need-parameters-fit-requires
 parameters-fit-requires c κs = search needs
 
 returns-3 : tie.Need-returns-3
-returns-3 c = render-7 _ _ _ _ _ _ (accepted (c .before .before .before .before .before .state-fits .ensures) (c .before .before .before .before .if1 .left)) (accepted (c .before .before .before .block-fits .ensures) (c .before .before .if2 .left)) (refused (c .before .parameters-fit .ensures) (c .if3 .taken))
+returns-3 c =
+    let at-block-fits = c .before .before .before in
+    let at-if1 = at-block-fits .before in
+    let at-state-fits = at-if1 .before in
+    render-7 _ _ _ _ _ _ (accepted (at-state-fits .state-fits .ensures) (at-if1 .if1 .left))
+    (accepted (at-block-fits .block-fits .ensures) (c .before .before .if2 .left))
+    (refused (c .before .parameters-fit .ensures) (c .if3 .taken))
 
 setup-requires : tie.Need-setup-requires
-setup-requires c κs = subst T (sym (accepted (c .before .before .before .before .before .before .state-fits .ensures) (c .before .before .before .before .before .if1 .left))) tt
+setup-requires c κs =
+    let at-if1 = c .before .before .before .before .before in
+    let at-state-fits = at-if1 .before in
+    subst T (sym (accepted (at-state-fits .state-fits .ensures) (at-if1 .if1 .left))) tt
 
 returns-4 : tie.Need-returns-4
-returns-4 c = render-blank _ _ _ _ _ _ (accepted (c .before .before .before .before .before .before .before .state-fits .ensures) (c .before .before .before .before .before .before .if1 .left)) (accepted (c .before .before .before .before .before .block-fits .ensures) (c .before .before .before .before .if2 .left)) (accepted (c .before .before .before .parameters-fit .ensures) (c .before .before .if3 .left)) (c .before .if4 .taken) (c .setup .ensures)
+returns-4 c =
+    let at-parameters-fit = c .before .before .before in
+    let at-if2 = at-parameters-fit .before in
+    let at-block-fits = at-if2 .before in
+    let at-if1 = at-block-fits .before in
+    let at-state-fits = at-if1 .before in
+    render-blank _ _ _ _ _ _ (accepted (at-state-fits .state-fits .ensures) (at-if1 .if1 .left))
+    (accepted (at-block-fits .block-fits .ensures) (at-if2 .if2 .left))
+    (accepted (at-parameters-fit .parameters-fit .ensures) (c .before .before .if3 .left)) (c .before .if4 .taken)
+    (c .setup .ensures)
 
 sound-requires : tie.Need-sound-requires
-sound-requires c κs = (subst T (sym (accepted (c .before .before .before .before .before .before .before .state-fits .ensures) (c .before .before .before .before .before .before .if1 .left))) tt, c .before .if4 .left, subst T (sym (accepted (c .before .before .before .before .before .block-fits .ensures) (c .before .before .before .before .if2 .left))) tt)
+sound-requires c κs =
+    let at-if2 = c .before .before .before .before in
+    let at-block-fits = at-if2 .before in
+    let at-if1 = at-block-fits .before in
+    let at-state-fits = at-if1 .before in
+    (subst T (sym (accepted (at-state-fits .state-fits .ensures) (at-if1 .if1 .left))) tt, c .before .if4 .left, subst T (sym (accepted (at-block-fits .block-fits .ensures) (at-if2 .if2 .left))) tt)
 
 same-length : tie.Need-same-length
 same-length c = search needs
 
 returns-5 : tie.Need-returns-5
-returns-5 c = render-sound _ _ _ _ _ _ (accepted (c .before .before .before .before .before .before .before .before .before .before .state-fits .ensures) (c .before .before .before .before .before .before .before .before .before .if1 .left)) (accepted (c .before .before .before .before .before .before .before .before .block-fits .ensures) (c .before .before .before .before .before .before .before .if2 .left)) (accepted (c .before .before .before .before .before .before .parameters-fit .ensures) (c .before .before .before .before .before .if3 .left)) (c .before .before .before .before .if4 .left) (c .before .before .sound .ensures)
+returns-5 c =
+    let at-if4 = c .before .before .before .before in
+    let at-if3 = at-if4 .before in
+    let at-parameters-fit = at-if3 .before in
+    let at-if2 = at-parameters-fit .before in
+    let at-block-fits = at-if2 .before in
+    let at-if1 = at-block-fits .before in
+    let at-state-fits = at-if1 .before in
+    render-sound _ _ _ _ _ _ (accepted (at-state-fits .state-fits .ensures) (at-if1 .if1 .left))
+    (accepted (at-block-fits .block-fits .ensures) (at-if2 .if2 .left))
+    (accepted (at-parameters-fit .parameters-fit .ensures) (at-if3 .if3 .left)) (at-if4 .if4 .left)
+    (c .before .before .sound .ensures)
 
 pub render-with-spec : {M : Type 1} → statement M
 render-with-spec =

@@ -14,14 +14,23 @@ pitch-set-requires c κs = search needs
 
 setup-operators-requires : tie.Need-setup-operators-requires
 setup-operators-requires c κs =
-    let fits = c .before .before .before .before .before .before .before .before .before .before .before .before .pre in
-    (count-at-most-6 _ (state-fits _ fits .count), operators-of _ (stored _ fits (not-false _ (c .before .before .before .before .before .before .before .before .before .before .if1 .left)) .fits))
+    let at-if1 = c .before .before .before .before .before .before .before .before .before .before in
+    let at-pre = at-if1 .before .before in
+    let fits = at-pre .pre in (
+      count-at-most-6 _ (state-fits _ fits .count),
+      operators-of _
+          (stored _ fits (not-false _ (at-if1 .if1 .left)) .fits),
+    )
 
 with-setup-requires : tie.Need-with-setup-requires
 with-setup-requires c κs = search needs
 
 returns-2 : tie.Need-returns-2
-returns-2 c = set-up _ _ _ (not-false _ (c .before .before .before .before .before .before .before .before .before .before .before .before .if1 .left)) (c .before .before .before .before .before .before .pitch-set .ensures) (c .before .setup-operators .ensures) (c .with-setup .ensures)
+returns-2 c =
+    let at-pitch-set = c .before .before .before .before .before .before in
+    let at-if1 = at-pitch-set .before .before .before .before .before .before in
+    set-up _ _ _ (not-false _ (at-if1 .if1 .left)) (at-pitch-set .pitch-set .ensures)
+    (c .before .setup-operators .ensures) (c .with-setup .ensures)
 
 pub setup-spec : {M : Type 1} → statement M
 setup-spec =

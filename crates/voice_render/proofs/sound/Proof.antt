@@ -38,7 +38,12 @@ same-length c = search needs
 
 returns : tie.Need-returns
 returns c =
-    sounded-of _ _ _ _ _ _ (c .before .before .before .before .before .before .before .before .before .before .before .before .before .before .before .before .before .before .begin .ensures) (c .before .before .before .before .before .before .before .before .before .before .level-operators .ensures) (c .before .before .before .before .before .before .before .before .before .enter .ensures) (c .before .before .before .run-plan .ensures) (c .leave .ensures)
+    let at-run-plan = c .before .before .before in
+    let at-enter = at-run-plan .before .before .before .before .before .before in
+    let at-level-operators = at-enter .before in
+    let at-begin = at-level-operators .before .before .before .before .before .before .before .before in
+    sounded-of _ _ _ _ _ _ (at-begin .begin .ensures) (at-level-operators .level-operators .ensures)
+    (at-enter .enter .ensures) (at-run-plan .run-plan .ensures) (c .leave .ensures)
 
 pub sound-spec : {M : Type 1} → statement M
 sound-spec =

@@ -11,7 +11,9 @@ normalize-velocity-requires : tie.Need-normalize-velocity-requires
 normalize-velocity-requires c κs = search needs
 
 returns : tie.Need-returns
-returns c = struck-now _ _ (c .before .before .before .note-on .ensures) (c .before .if1 .taken) (c .normalize-velocity .ensures)
+returns c =
+    let at-note-on = c .before .before .before in
+    struck-now _ _ (at-note-on .note-on .ensures) (c .before .if1 .taken) (c .normalize-velocity .ensures)
 
 returns-2 : tie.Need-returns-2
 returns-2 c = struck-before _ _ (c .before .before .note-on .ensures) (c .if1 .left)

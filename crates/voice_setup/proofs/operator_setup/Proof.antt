@@ -13,14 +13,21 @@ operator-set-requires : tie.Need-operator-set-requires
 operator-set-requires c κs = search needs
 
 headroom-requires : tie.Need-headroom-requires
-headroom-requires c κs = rw (c .before .before .before .before .operator-level .ensures) (level-at-most-127 _ (limits _ (c .before .before .before .before .before .pre) .level))
+headroom-requires c κs =
+    let at-operator-level = c .before .before .before .before in
+    let at-pre = at-operator-level .before in
+    rw (at-operator-level .operator-level .ensures) (level-at-most-127 _ (limits _ (at-pre .pre) .level))
 
 frequency-ratio-requires : tie.Need-frequency-ratio-requires
-frequency-ratio-requires c κs = limits _ (c .before .before .before .before .before .before .pre) .coarse
+frequency-ratio-requires c κs =
+    let at-pre = c .before .before .before .before .before .before in
+    limits _ (at-pre .pre) .coarse
 
 returns : tie.Need-returns
 returns c =
-    set-up _ _ _ _ (c .before .before .before .before .before .before .operator-level .ensures) (c .before .before .operator-set .ensures) (c .before .headroom .ensures) (c .frequency-ratio .ensures)
+    let at-operator-level = c .before .before .before .before .before .before in
+    set-up _ _ _ _ (at-operator-level .operator-level .ensures) (c .before .before .operator-set .ensures)
+    (c .before .headroom .ensures) (c .frequency-ratio .ensures)
 
 pub operator-setup-spec : {M : Type 1} → statement M
 operator-setup-spec =

@@ -34,7 +34,9 @@ array-copy-out-o c = omega arith
 
 operator-setup-requires : tie.Need-operator-setup-requires Inv-loop μ-loop
 unfolding operatorAt noOperator scalingWith
-operator-setup-requires c κs = operator-at-fits _ _ (omega arith) (c .before .before .before .before .pre .1)
+operator-setup-requires c κs =
+    let at-pre = c .before .before .before .before in
+    operator-at-fits _ _ (omega arith) (at-pre .pre .1)
 
 mul-envelope : tie.Need-mul-envelope Inv-loop μ-loop
 mul-envelope c = omega arith
@@ -62,7 +64,10 @@ loop-less c = omega arith
 
 loop-again : tie.Need-loop-again Inv-loop μ-loop
 unfolding operatorAt noOperator scalingWith putAt
-loop-again c = (omega (arith, c .before .before .before .before), set-up-next _ _ _ _ _ (c .before .before .before .before .before .before .loop .inv .1) (c .before .before .operator-setup .ensures))
+loop-again c =
+    let far = c .before .before .before .before in
+    let at-loop = far .before .before in
+    (omega (arith, far), set-up-next _ _ _ _ _ (at-loop .loop .inv .1) (c .before .before .operator-setup .ensures))
 
 returns : tie.Need-returns Inv-loop μ-loop
 returns c =

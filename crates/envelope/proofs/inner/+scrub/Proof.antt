@@ -43,13 +43,18 @@ scrub-element-copy-out-result t c = search needs
 
 scrub-returns-2 : (t : ℕ) → scrub-lts.Need-returns-2 (hold-reads.Asked, hold-reads.Learnt, scrub-below t, scrub.Post, value-reads.Asked, value-reads.Learnt) (scrub-at t) scrub.Post
 unfolding released decimal round ofBits
-scrub-returns-2 t c = let at-else = c .before .before .before .before in
+scrub-returns-2 t c =
+    let at-if2 = c .before .before .before in
+    let at-else = c .before .before .before .before in
     let args = at-else .before .args in
-    rw (scrubbed-released (args .reshape) (args .t1) (args .calls) (args .t) (args .gate-duration) (at-else .if1 .left) (c .before .before .before .if2 .taken))
+    rw (scrubbed-released (args .reshape) (args .t1) (args .calls) (args .t) (args .gate-duration) (at-else .if1 .left)
+    (at-if2 .if2 .taken))
     (simp (c .before .if3 .taken))
 
 scrub-sub-scrub : (t : ℕ) → scrub-lts.Need-sub-scrub (hold-reads.Asked, hold-reads.Learnt, scrub-below t, scrub.Post, value-reads.Asked, value-reads.Learnt) (scrub-at t) scrub.Post
-scrub-sub-scrub t c = pos-of-ne-zero (c .before .before .before .if1 .left)
+scrub-sub-scrub t c =
+    let at-if1 = c .before .before .before in
+    pos-of-ne-zero (at-if1 .if1 .left)
 
 scrub-scrub-requires : (t : ℕ) → scrub-lts.Need-scrub-requires (hold-reads.Asked, hold-reads.Learnt, scrub-below t, scrub.Post, value-reads.Asked, value-reads.Learnt) (scrub-at t) scrub.Post
 scrub-scrub-requires t c κs = let at-else = c .before .before .before in
@@ -60,17 +65,23 @@ scrub-value-requires t c κs = search needs
 
 scrub-returns-3 : (t : ℕ) → scrub-lts.Need-returns-3 (hold-reads.Asked, hold-reads.Learnt, scrub-below t, scrub.Post, value-reads.Asked, value-reads.Learnt) (scrub-at t) scrub.Post
 unfolding released decimal round ofBits
-scrub-returns-3 t c = let at-else = c .before .before .before .before .before in
+scrub-returns-3 t c =
+    let at-if2 = c .before .before .before .before in
+    let at-else = c .before .before .before .before .before in
     let args = at-else .before .args in
-    rw (scrubbed-released (args .reshape) (args .t1) (args .calls) (args .t) (args .gate-duration) (at-else .if1 .left) (c .before .before .before .before .if2 .taken))
+    rw (scrubbed-released (args .reshape) (args .t1) (args .calls) (args .t) (args .gate-duration) (at-else .if1 .left)
+    (at-if2 .if2 .taken))
     (simp (c .before .before .if3 .left, sym (c .before .scrub .ensures)) (c .value .ensures))
 
 scrub-hold-requires-2 : (t : ℕ) → scrub-lts.Need-hold-requires-2 (hold-reads.Asked, hold-reads.Learnt, scrub-below t, scrub.Post, value-reads.Asked, value-reads.Learnt) (scrub-at t) scrub.Post
 scrub-hold-requires-2 t c κs = search needs
 
 scrub-returns-4 : (t : ℕ) → scrub-lts.Need-returns-4 (hold-reads.Asked, hold-reads.Learnt, scrub-below t, scrub.Post, value-reads.Asked, value-reads.Learnt) (scrub-at t) scrub.Post
-scrub-returns-4 t c = let args = c .before .before .before .args in
-    c .hold2 .ensures ∙ sym (scrubbed-held (args .reshape) (args .t1) (args .calls) (args .t) (args .gate-duration) (c .before .if2 .left))
+scrub-returns-4 t c =
+    let at-start = c .before .before .before in
+    let args = at-start .args in
+    c .hold2 .ensures ∙ sym
+    (scrubbed-held (args .reshape) (args .t1) (args .calls) (args .t) (args .gate-duration) (c .before .if2 .left))
 
 pub +scrub-spec : {M : Type 1} → statement M
 +scrub-spec =

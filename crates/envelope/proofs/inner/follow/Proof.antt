@@ -18,10 +18,12 @@ started-requires c κs = search needs
 returns : tie.Need-returns
 unfolding decimal round ofBits
 returns c =
-    let a = c .before .before .before .before .args in
+    let at-start = c .before .before .before .before in
+    let a = at-start .args in
     let q = a .q in
     λ e h. gate-jumps (a .reshape) (a .gate) e q (c .before .before .if1 .taken) (c .started .ensures)
-    (c .before .value-at .ensures ∙ ap (λ (l : List Float). levelValue (a .reshape) l (q .stage) (q .phase) (q .start)) (sym h))
+    (c .before .value-at .ensures ∙ ap (λ (l : List Float). levelValue (a .reshape) l (q .stage) (q .phase) (q .start))
+    (sym h))
 
 returns-2 : tie.Need-returns-2
 returns-2 c = let a = c .before .before .args in λ e h. gate-stays (a .reshape) (a .gate) e (a .q) (c .if1 .left)

@@ -22,14 +22,18 @@ element-copy-out-result-2 c = search needs
 
 returns-2 : tie.Need-returns-2
 unfolding pastStages decimal round ofBits
-returns-2 c = simp (c .before .before .before .if1 .left, c .before .if2 .taken)
+returns-2 c =
+    let at-if1 = c .before .before .before in
+    simp (at-if1 .if1 .left, c .before .if2 .taken)
 
 value-requires : tie.Need-value-requires
 value-requires c κs = search needs
 
 returns-3 : tie.Need-returns-3
 unfolding pastStages previousLevel decimal minusDecimal round ofBits
-returns-3 c = simp (c .before .before .before .if1 .left, c .before .if2 .left) (c .value .ensures)
+returns-3 c =
+    let at-if1 = c .before .before .before in
+    simp (at-if1 .if1 .left, c .before .if2 .left) (c .value .ensures)
 
 pub past-stages-spec : {M : Type 1} → statement M
 past-stages-spec =

@@ -27,7 +27,9 @@ array-read-result-4 : tie.Need-array-read-result-4
 array-read-result-4 c = search needs
 
 returns-4 : tie.Need-returns-4
-returns-4 c = let last : c .before .before .before .args .i ≡ 3 = omega arith in rw last
+returns-4 c =
+    let at-start = c .before .before .before in
+    let last : at-start .args .i ≡ 3 = omega arith in rw last
 
 pub pick-spec : {M : Type 1} → statement M
 pick-spec =

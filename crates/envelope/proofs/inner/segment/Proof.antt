@@ -26,15 +26,26 @@ line-requires-2 c κs = search needs
 
 returns-2 : tie.Need-returns-2
 unfolding segment bent jump decimal round ofBits
-returns-2 c = let at-else = c .before .before .before .before in
-    simp (not-false (at-else .before .args .reshape) (at-else .if1 .left), c .before .before .before .if2 .taken, c .line2 .ensures, c .before .f32-max2 .ensures, c .before .before .f32-max .ensures)
+returns-2 c =
+    let at-if2 = c .before .before .before in
+    let at-else = c .before .before .before .before in
+    simp (
+      not-false (at-else .before .args .reshape)
+          (at-else .if1 .left),
+      at-if2 .if2 .taken,
+      c .line2 .ensures,
+      c .before .f32-max2 .ensures,
+      c .before .before .f32-max .ensures,
+    )
 
 line-requires-3 : tie.Need-line-requires-3
 line-requires-3 c κs = search needs
 
 returns-3 : tie.Need-returns-3
 unfolding segment
-returns-3 c = simp (not-false (c .before .before .before .args .reshape) (c .before .before .if1 .left), c .before .if2 .left) (c .line3 .ensures)
+returns-3 c =
+    let at-start = c .before .before .before in
+    simp (not-false (at-start .args .reshape) (c .before .before .if1 .left), c .before .if2 .left) (c .line3 .ensures)
 
 pub segment-spec : {M : Type 1} → statement M
 segment-spec =

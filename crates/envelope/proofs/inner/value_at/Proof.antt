@@ -19,7 +19,9 @@ segment-requires : tie.Need-segment-requires
 segment-requires c κs = search needs
 
 returns : tie.Need-returns
-returns c = simp (c .segment .ensures, c .before .pick2 .ensures, c .before .before .start-of .ensures, c .before .before .before .pick .ensures)
+returns c =
+    let at-pick = c .before .before .before in
+    simp (c .segment .ensures, c .before .pick2 .ensures, c .before .before .start-of .ensures, at-pick .pick .ensures)
 
 pub value-at-spec : {M : Type 1} → statement M
 value-at-spec =
