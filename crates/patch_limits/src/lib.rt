@@ -10,7 +10,7 @@ ghost use Rattle.patch.specs.Packed.{stagesFit, scalingFits, operatorFits, oper
 
 // Whether the four rates or levels of an envelope are at most 99. They are lent: an array of four bytes that is handed over as a value comes
 // in a register, to be taken apart bit by bit, where sixteen bytes can be tested as one.
-fn stages_fit(x: &[u8; 4]) -> bool
+pub fn stages_fit(x: &[u8; 4]) -> bool
     ensures { λ r. ⌜ r ≡ stagesFit (now (x .entry)) ⌝ }
 {
     (x[0] <= 99) & (x[1] <= 99) & (x[2] <= 99) & (x[3] <= 99)
