@@ -15,7 +15,11 @@ hashedByte h b = bitXor h b * 0x100000001b3 % 2 ^ 64
 
 -- the four bytes of a word, least first
 unfoldable pub hashedWord : ℕ → ℕ → ℕ
-hashedWord h w = hashedByte (hashedByte (hashedByte (hashedByte h (w % 256)) (w / 256 % 256)) (w / 65536 % 256)) (w / 16777216 % 256)
+hashedWord h w =
+    let h1 = hashedByte h (w % 256) in
+    let h2 = hashedByte h1 (w / 256 % 256) in
+    let h3 = hashedByte h2 (w / 65536 % 256) in
+    hashedByte h3 (w / 16777216 % 256)
 
 -- the first n samples of a block, in order; a NaN counts as 7fc00000
 unfoldable pub hashedSamples : List Float → ℕ → ℕ → ℕ

@@ -27,7 +27,11 @@ unfoldable pub readied : Patch → Ready
 readied p =
     let v = voice.setPatchAnswer (voice.initAnswer 6 (decimal 48000 0) .voice) p sixOperators in
     let l = lfo.setAnswer (lfo.initAnswer (decimal 48000 0) .lfo) (p .modulations) in
-    record { number = cond (eqb (v .number) 0) (l .number) (v .number); voice = v .voice; lfo = lfo.resetAnswer (l .lfo) .lfo }
+    record {
+      number = cond (eqb (v .number) 0) (l .number) (v .number);
+      voice = v .voice;
+      lfo = lfo.resetAnswer (l .lfo) .lfo;
+    }
 
 -- velocity 0.8, brightness and envelope control 0.5, no sustain
 unfoldable pub parametersOf : Float → Bool → Float → Float → VoiceParameters
@@ -69,7 +73,8 @@ module _ (lut pairs high low : List Float) where
   -- a voice set up, then 128 blocks with the gate on and 64 with it off; the generator's number begins at 21 (hex)
   unfoldable pub notePlayed : Ready → Float → ℕ → ℕ
   notePlayed r note hash =
-      let s : Playing = record { voice = setUpFor pairs high low (r .voice) note; lfo = r .lfo; random = 0x21; hash = hash } in
+      let ready = setUpFor pairs high low (r .voice) note in
+      let s : Playing = record { voice = ready; lfo = r .lfo; random = 0x21; hash = hash } in
       blocksPlayed note false 64 (blocksPlayed note true 128 s) .hash
 
   -- the notes 36, 60 and 84, each from the beginning, in one hash
@@ -80,4 +85,5 @@ module _ (lut pairs high low : List Float) where
 unfoldable pub identityOf : Patch → Identified
 identityOf p =
     let r = readied p in
-    record { number = r .number; identifier = cond (eqb (r .number) 0) (notesPlayed lutSine sinePairs lutPitchRatioHigh lutPitchRatioLow r) 0 }
+    let played = notesPlayed lutSine sinePairs lutPitchRatioHigh lutPitchRatioLow r in
+    record { number = r .number; identifier = cond (eqb (r .number) 0) played 0 }

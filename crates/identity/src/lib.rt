@@ -1,12 +1,14 @@
-// A patch's identifier: three notes of the patch are played and every sample's bits go into one hash. Added by us: no Rust file.
-// Two patches that sound alike in these notes have one identifier, and a patch has the same one wherever and whenever it is asked
-// for: the generator's number is set at each note. A patch that a voice or an LFO refuses gets the number of that refusal.
+// A patch's identifier: three notes of the patch are played and every sample's bits go into one hash. Added by us: no
+// Rust file. Two patches that sound alike in these notes have one identifier, and a patch has the same one wherever and
+// whenever it is asked for: the generator's number is set at each note. A patch that a voice or an LFO refuses gets the
+// number of that refusal.
 ghost use mathlib.Core.Path.{_≡_};
 ghost use mathlib.Core.Bool.{cond};
 ghost use Prim.Native.Nat.{_*_, _%_, _^_};
 ghost use lib.Dec.{eqb};
 ghost use Rattle.identity.specs.Hash.{hashedByte, hashedWord, hashedSamples};
-ghost use Rattle.identity.specs.Identity.{readied, parametersOf, setUpFor, blockPlayed, blocksPlayed, notePlayed, notesPlayed, identityOf};
+ghost use Rattle.identity.specs.Identity.{readied, parametersOf, setUpFor, blockPlayed, blocksPlayed, notePlayed};
+ghost use Rattle.identity.specs.Identity.{notesPlayed, identityOf};
 use lfo::Lfo;
 use patch::Patch;
 use voice::Voice;
@@ -117,7 +119,8 @@ fn parameters(note: f32, gate: bool, pitch_mod: f32, amp_mod: f32) -> VoiceParam
     }
 }
 
-// One block: the LFO reads the sine's table, the voice its pairs. The scratch quarters are cleared with the output: nothing that is heard depends on them.
+// One block: the LFO reads the sine's table, the voice its pairs. The scratch quarters are cleared with the output:
+// nothing that is heard depends on them.
 fn play_block(
     lut: &[f32; 641],
     pairs: &[f32; 1024],
@@ -127,7 +130,8 @@ fn play_block(
     gate: bool,
     s: Playing,
 ) -> Playing
-    ensures { λ r. ⌜ r ≡ blockPlayed (now (lut .entry)) (now (pairs .entry)) (now (high .entry)) (now (low .entry)) note gate s ⌝ }
+    ensures { λ r. ⌜ r
+        ≡ blockPlayed (now (lut .entry)) (now (pairs .entry)) (now (high .entry)) (now (low .entry)) note gate s ⌝ }
 {
     let before = s.lfo;
     let moved = lfo::step_with(lut, before, s.random, 64.0);
@@ -158,7 +162,9 @@ fn play_blocks(
     n: u32,
     before: Playing,
 ) -> Playing
-    ensures { λ r. ⌜ r ≡ blocksPlayed (now (lut .entry)) (now (pairs .entry)) (now (high .entry)) (now (low .entry)) note gate n before ⌝ }
+    ensures { λ r. ⌜ r
+        ≡ blocksPlayed (now (lut .entry)) (now (pairs .entry)) (now (high .entry)) (now (low .entry))
+        note gate n before ⌝ }
 {
     let mut s = before;
     let mut i = 0u32;
@@ -189,7 +195,8 @@ fn play_note(
     note: f32,
     hash: u64,
 ) -> u64
-    ensures { λ h. ⌜ h ≡ notePlayed (now (lut .entry)) (now (pairs .entry)) (now (high .entry)) (now (low .entry)) r note hash ⌝ }
+    ensures { λ h. ⌜ h
+        ≡ notePlayed (now (lut .entry)) (now (pairs .entry)) (now (high .entry)) (now (low .entry)) r note hash ⌝ }
 {
     let v = r.voice;
     let lfo = r.lfo;
@@ -212,7 +219,8 @@ fn play_notes(
     low: &[f32; 256],
     r: Ready,
 ) -> u64
-    ensures { λ h. ⌜ h ≡ notesPlayed (now (lut .entry)) (now (pairs .entry)) (now (high .entry)) (now (low .entry)) r ⌝ }
+    ensures { λ h. ⌜ h
+        ≡ notesPlayed (now (lut .entry)) (now (pairs .entry)) (now (high .entry)) (now (low .entry)) r ⌝ }
 {
     let h36 = play_note(lut, pairs, high, low, r, 36.0, HASH_BASIS);
     let h60 = play_note(lut, pairs, high, low, r, 60.0, h36);

@@ -1,5 +1,5 @@
-// The judge's entries 58 to 5f (hex, docs/ORACLE.md): the crate `envelope`. An answer stands from place 5 on. An envelope is its
-// stage in four bytes and eleven floats.
+// The judge's entries 58 to 5f (hex, docs/ORACLE.md): the crate `envelope`. An answer stands from place 5 on. An
+// envelope is its stage in four bytes and eleven floats.
 use envelope::Envelope;
 use envelope::Rendered;
 use envelope::Set;

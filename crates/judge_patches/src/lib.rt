@@ -1,5 +1,5 @@
-// The judge's entries 20 to 2f (hex, docs/ORACLE.md): the crates `patch` and `bank`. An answer stands from place 5 on. A patch is
-// its 156 fields in the struct's order.
+// The judge's entries 20 to 2f (hex, docs/ORACLE.md): the crates `patch` and `bank`. An answer stands from place 5 on.
+// A patch is its 156 fields in the struct's order.
 ghost use Prim.Native.Nat.{_≤_};
 use patch::Envelope;
 use patch::KeyboardScaling;

@@ -1,5 +1,5 @@
-// The judge's entries 80 to 8f (hex, docs/ORACLE.md): the crate `voice`. An answer stands from place 5 on. A voice is its fields in
-// the struct's order, 666 bytes: a ratio is its kind (0 to the note, 1 to 1 Hz) and a float.
+// The judge's entries 80 to 8f (hex, docs/ORACLE.md): the crate `voice`. An answer stands from place 5 on. A voice is
+// its fields in the struct's order, 666 bytes: a ratio is its kind (0 to the note, 1 to 1 Hz) and a float.
 ghost use Prim.Native.Nat.{_≤_};
 use algorithms::Plan;
 use dx_units_inner::Ratio;
@@ -125,7 +125,8 @@ fn set_stored(v: Voice, p: Patch, which: u8) -> Loaded {
     }
 }
 
-// One byte of the voice changed, and then the entry that `way` names; the register keeps it only where the call says so.
+// One byte of the voice changed, and then the entry that `way` names; the register keeps it only where the call says
+// so.
 fn bend(s: &[u8], registers: &mut [u8], out: &mut [u8]) -> usize {
     let before = voice(held(registers));
     let place = judge_wire::VOICE as u32 + judge_wire::word(s, 1) % SIZE;
@@ -220,19 +221,19 @@ fn render_block(
     block: &mut [f32],
 ) -> usize {
     fill(entry, s, block);
-    let number = sound(entry, s, registers, block);
-    put_sounded(entry, out, number, block, held(registers))
+    let number = render_register(entry, s, registers, block);
+    put_rendered(entry, out, number, block, held(registers))
 }
 
 // Renders a block with the stored voice, keeps what becomes of it, and answers the number.
-fn sound(entry: u8, s: &[u8], registers: &mut [u8], block: &mut [f32]) -> u8 {
+fn render_register(entry: u8, s: &[u8], registers: &mut [u8], block: &mut [f32]) -> u8 {
     let done = rendered(entry, voice(held(registers)), parameters(s), block);
     let v = done.voice;
     keep(registers, v);
     done.number
 }
 
-fn put_sounded(entry: u8, out: &mut [u8], number: u8, block: &[f32], voice: &[u8]) -> usize {
+fn put_rendered(entry: u8, out: &mut [u8], number: u8, block: &[f32], voice: &[u8]) -> usize {
     let a = judge_wire::put_byte(out, 5, number);
     if entry == 0x89 {
         return judge_wire::put_number(out, a, digest(block, voice), 8);

@@ -1,9 +1,9 @@
-// The bytes of a script, of its answers and of the registers (docs/ORACLE.md): numbers of one to eight bytes, least first.
-// Past the end of what is read stand zeros, and past the end of what is written nothing is written.
+// The bytes of a script, of its answers and of the registers (docs/ORACLE.md): numbers of one to eight bytes, least
+// first. Past the end of what is read stand zeros, and past the end of what is written nothing is written.
 ghost use Prim.Native.Nat.{_≤_};
 
-// The registers are the states that live between calls, each as an answer writes it: where each begins, and how many bytes
-// they are together. The generator's number stands behind the LFO, as in the LFO's answers.
+// The registers are the states that live between calls, each as an answer writes it: where each begins, and how many
+// bytes they are together. The generator's number stands behind the LFO, as in the LFO's answers.
 pub const PATCH: u8 = 0;
 
 pub const ENVELOPE: u8 = 156;

@@ -1,5 +1,5 @@
--- Whether the calls on the way to an identifier are answered and none is refused: along the definitions of `identity` (specs/Identity), in their order,
--- with the same arguments and from the same states. Definitions only.
+-- Whether the calls on the way to an identifier are answered and none is refused: along the definitions of `identity`
+-- (specs/Identity), in their order, with the same arguments and from the same states. Definitions only.
 use Prim.Native.Nat.{ℕ, zero, suc}
 use mathlib.Core.Bool.{Bool, true, false, _&&_}
 use mathlib.Core.List.{List}
@@ -31,12 +31,15 @@ readyAnswered p =
     let v = voice.setPatchAnswer (made .voice) p sixOperators in
     let started = lfo.initAnswer (decimal 48000 0) in
     let l = lfo.setAnswer (started .lfo) (p .modulations) in
-    answered (made .number) && answered (v .number) && answered (started .number) && answered (l .number) && answered (lfo.resetAnswer (l .lfo) .number)
+    answered (made .number) && answered (v .number) && answered (started .number) && answered (l .number)
+    && answered (lfo.resetAnswer (l .lfo) .number)
 
 module _ (pairs high low : List Float) where
   -- the blank block of `setUpFor`
   unfoldable pub setUpAnswered : Voice → Float → Bool
-  setUpAnswered v note = answered (renderAnswer pairs high low v (parametersOf note false (decimal 0 0) (decimal 0 0)) silence .number)
+  setUpAnswered v note =
+      let p = parametersOf note false (decimal 0 0) (decimal 0 0) in
+      answered (renderAnswer pairs high low v p silence .number)
 
 module _ (lut pairs high low : List Float) where
   -- the four calls of `blockPlayed`: the LFO's step, its two readings and the voice's block
@@ -45,17 +48,20 @@ module _ (lut pairs high low : List Float) where
       let m = lfo.stepAnswer lut (s .lfo) (s .random) (decimal 64 0) in
       let p = parametersOf note gate (lfo.pitchModAnswer (m .lfo) .value) (lfo.ampModAnswer (m .lfo) .value) in
       let a = renderAnswer pairs high low (s .voice) p silence in
-      answered (m .number) && answered (lfo.pitchModAnswer (m .lfo) .number) && answered (lfo.ampModAnswer (m .lfo) .number) && answered (a .number)
+      answered (m .number) && answered (lfo.pitchModAnswer (m .lfo) .number)
+      && answered (lfo.ampModAnswer (m .lfo) .number) && answered (a .number)
 
   -- so many blocks, one after the other
   unfoldable pub blocksAnswered : Float → Bool → ℕ → Playing → Bool
   blocksAnswered note gate zero s = true
-  blocksAnswered note gate (suc n) s = blocksAnswered note gate n s && blockAnswered note gate (blocksPlayed lut pairs high low note gate n s)
+  blocksAnswered note gate (suc n) s =
+      blocksAnswered note gate n s && blockAnswered note gate (blocksPlayed lut pairs high low note gate n s)
 
   -- the blank block, the 128 blocks with the gate on and the 64 with it off
   unfoldable pub noteAnswered : Ready → Float → ℕ → Bool
   noteAnswered r note hash =
-      let s : Playing = record { voice = setUpFor pairs high low (r .voice) note; lfo = r .lfo; random = 0x21; hash = hash } in
+      let ready = setUpFor pairs high low (r .voice) note in
+      let s : Playing = record { voice = ready; lfo = r .lfo; random = 0x21; hash = hash } in
       setUpAnswered pairs high low (r .voice) note
       && blocksAnswered note true 128 s
       && blocksAnswered note false 64 (blocksPlayed lut pairs high low note true 128 s)

@@ -1,4 +1,5 @@
--- Demand 3's words: calls that are the same but for what was left in the work buffers, and what is heard of a call. Definitions only.
+-- Demand 3's words: calls that are the same but for what was left in the work buffers, and what is heard of a call.
+-- Definitions only.
 use Prim.Native.Nat.{_/_}
 use mathlib.Core.Path.{_≡_}
 use mathlib.Core.Bool.{cond}
@@ -16,7 +17,8 @@ output block = cond (blockFits (length block)) (take (length block / 4) block) [
 -- equal calls, or blocks with equal parameters, of one length and with equal output before them: the scratch may differ
 pub data Alike : Call → Call → Type 0 where
   equal : (call : Call) → Alike call call
-  blocks : (p : VoiceParameters) (one other : List Float) → length one ≡ length other → output one ≡ output other → Alike (Render p one) (Render p other)
+  blocks : (p : VoiceParameters) (one other : List Float) → length one ≡ length other → output one ≡ output other
+      → Alike (Render p one) (Render p other)
 
 -- call by call
 pub data AllAlike : List Call → List Call → Type 0 where

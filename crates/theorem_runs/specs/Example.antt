@@ -1,5 +1,5 @@
--- A run of four calls that sounds: a voice of four operators is started, gets a patch, is set up by a blank block and plays two samples of a note.
--- Definitions only.
+-- A run of four calls that sounds: a voice of four operators is started, gets a patch, is set up by a blank block and
+-- plays two samples of a note. Definitions only.
 use Prim.Native.Nat.{ℕ}
 use mathlib.Core.Bool.{true, false}
 use mathlib.Core.List.{List, [], _∷_}

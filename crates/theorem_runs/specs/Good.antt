@@ -16,7 +16,8 @@ pub record Good (s : State) : Type 0 where
 
 -- what a voice and an LFO start from
 unfoldable pub fresh : ℕ → Float → Float → ℕ → State
-fresh operators rate lfoRate random = record { voice = initAnswer operators rate .voice; lfo = lfoAnswers.initAnswer lfoRate .lfo; random = random }
+fresh operators rate lfoRate random =
+    record { voice = initAnswer operators rate .voice; lfo = lfoAnswers.initAnswer lfoRate .lfo; random = random }
 
 -- no call of a run is answered with a 9
 unfoldable pub noneIsNine : List Step → Bool

@@ -1,5 +1,5 @@
--- A whole run: from a state, any list of calls of a voice and an LFO, accepted or refused, gives for each call its answer, the block afterwards and the
--- state that the next call gets. Definitions only.
+-- A whole run: from a state, any list of calls of a voice and an LFO, accepted or refused, gives for each call its
+-- answer, the block afterwards and the state that the next call gets. Definitions only.
 use Prim.Native.Nat.{ℕ}
 use mathlib.Core.Bool.{cond}
 use mathlib.Core.List.{List, [], _∷_}
@@ -42,7 +42,8 @@ withVoice s v = record { voice = v; lfo = s .lfo; random = s .random }
 abbrev pub withLfo : State → Lfo → ℕ → State
 withLfo s l random = record { voice = s .voice; lfo = l; random = random }
 
--- what a call gives: its number, the operator that 3 and 4 name, an LFO reader's value, the block after a render, and the state after it all
+-- what a call gives: its number, the operator that 3 and 4 name, an LFO reader's value, the block after a render, and
+-- the state after it all
 pub record Step : Type 0 where
   pub number : ℕ
   pub at : ℕ
@@ -58,13 +59,15 @@ abbrev pub started : State → Prepared → Step
 started s a = plain (a .number) (cond (eqb (a .number) 0) (withVoice s (a .voice)) s)
 
 abbrev pub loadedInto : State → Loaded → Step
-loadedInto s a = record { number = a .number; at = a .at; value = decimal 0 0; block = []; state = withVoice s (a .voice) }
+loadedInto s a =
+    record { number = a .number; at = a .at; value = decimal 0 0; block = []; state = withVoice s (a .voice) }
 
 abbrev pub takenFrom : State → Prepared → Step
 takenFrom s a = plain (a .number) (withVoice s (a .voice))
 
 abbrev pub rendered : State → Answered → Step
-rendered s a = record { number = a .number; at = 0; value = decimal 0 0; block = a .block; state = withVoice s (a .voice) }
+rendered s a =
+    record { number = a .number; at = 0; value = decimal 0 0; block = a .block; state = withVoice s (a .voice) }
 
 abbrev pub lfoStarted : State → lfoPrepared.Prepared → Step
 lfoStarted s a = plain (a .number) (cond (eqb (a .number) 0) (withLfo s (a .lfo) (s .random)) s)

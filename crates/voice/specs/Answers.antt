@@ -39,11 +39,15 @@ prepared number v = record { number = number; voice = v }
 -- 2, then 5; a refusal hands back a voice of no operators
 unfoldable pub initAnswer : ℕ → Float → Prepared
 initAnswer operators rate =
-    cond (counted operators) (cond (sampleRateFits rate) (prepared 0 (freshVoice operators rate)) (prepared 5 noVoice)) (prepared 2 noVoice)
+    cond (counted operators)
+    (cond (sampleRateFits rate) (prepared 0 (freshVoice operators rate)) (prepared 5 noVoice))
+    (prepared 2 noVoice)
 
 -- what a compiled row makes of the voice; 3 and 4 name their operator
 unfoldable pub loaded : Voice → Patch → Compiled → Loaded
-loaded v p c = record { number = c .number; at = c .at; voice = cond (eqb (c .number) 0) (withPatch v true p (c .row) (c .plan)) v }
+loaded v p c =
+    let accepted = eqb (c .number) 0 in
+    record { number = c .number; at = c .at; voice = cond accepted (withPatch v true p (c .row) (c .plan)) v }
 
 abbrev pub notLoaded : ℕ → Voice → Loaded
 notLoaded number v = record { number = number; at = 0; voice = v }
@@ -51,7 +55,9 @@ notLoaded number v = record { number = number; at = 0; voice = v }
 -- 9, 6, 2, 3, 4
 unfoldable pub setPatchAnswer : Voice → Patch → List ℕ → Loaded
 setPatchAnswer v p table =
-    cond (stateFits v) (cond (patchFits p) (loaded v p (compiled (v .operators) table (p .algorithm))) (notLoaded 6 v)) (notLoaded 9 v)
+    cond (stateFits v)
+    (cond (patchFits p) (loaded v p (compiled (v .operators) table (p .algorithm))) (notLoaded 6 v))
+    (notLoaded 9 v)
 
 -- 9 only
 unfoldable pub takePatchAnswer : Voice → Prepared

@@ -1,6 +1,6 @@
-// A DX7 voice between blocks, after voice.rs: its state goes in and comes back by value. An entry refuses in document 01's order
-// (starting 2, 5; setting a patch 9, 6, 2, 3, 4; taking it out 9), and its promise names the answer for every input: a refusal
-// hands back the voice as it came. `voice_render` has its blocks.
+// A DX7 voice between blocks, after voice.rs: its state goes in and comes back by value. An entry refuses in document
+// 01's order (starting 2, 5; setting a patch 9, 6, 2, 3, 4; taking it out 9), and its promise names the answer for
+// every input: a refusal hands back the voice as it came. `voice_render` has its blocks.
 ghost use mathlib.Core.Path.{_≡_};
 ghost use Rattle.envelope.specs.Answers.{allStages};
 ghost use Rattle.voice.specs.Voice.{voiceWith, withPatch};
@@ -48,10 +48,11 @@ pub struct Loaded {
     pub voice: Voice,
 }
 
+// A voice at rest, dirty and without a patch; of no operators where starting is refused.
 fn voice_with(operators: usize, sample_rate: f32, one_hz: f32, a0: f32) -> Voice
     ensures { λ r. ⌜ r ≡ voiceWith operators «sample_rate» «one_hz» a0 ⌝ }
 {
-    // Envelopes are scaled from the DX7's sample rate.
+    // Envelope increments are written for 44,100 Hz, whatever the rate: the older instrument's.
     let e = envelope::init(44100.0 * one_hz);
     let o = Operator::new();
     let t = Tuned {
@@ -85,7 +86,8 @@ fn voice_with(operators: usize, sample_rate: f32, one_hz: f32, a0: f32) -> Voice
     }
 }
 
-fn stages_fit(e: [Envelope; 6]) -> bool
+// No envelope has a stage above 3.
+fn all_stages(e: [Envelope; 6]) -> bool
     ensures { λ r. ⌜ r ≡ allStages e ⌝ }
 {
     (e[0].stage <= 3)
@@ -96,6 +98,7 @@ fn stages_fit(e: [Envelope; 6]) -> bool
         & (e[5].stage <= 3)
 }
 
+// A stored patch whose fields 6 accepts, with a row that gets neither 3 nor 4 and that row's plan.
 fn patch_sound(operators: usize, patch: Patch, row: [u8; 6], plan: Plan) -> bool
     ensures { λ r. ⌜ r ≡ patchSound operators patch row plan ⌝ }
 {
@@ -113,7 +116,7 @@ pub fn state_fits(v: Voice) -> bool
         return false;
     }
     let e = v.operator_envelope;
-    if !stages_fit(e) {
+    if !all_stages(e) {
         return false;
     }
     let pitch = v.pitch_envelope;
@@ -156,6 +159,7 @@ pub fn init(operators: usize, sample_rate: f32) -> Prepared
     }
 }
 
+// The voice with another patch or none, which the next block sets up.
 fn with_patch(v: Voice, has_patch: bool, patch: Patch, row: [u8; 6], plan: Plan) -> Voice
     ensures { λ r. ⌜ r ≡ withPatch v «has_patch» patch row plan ⌝ }
 {
@@ -168,6 +172,7 @@ fn with_patch(v: Voice, has_patch: bool, patch: Patch, row: [u8; 6], plan: Plan)
     w
 }
 
+// What a compiled row makes of the voice.
 fn load(v: Voice, patch: Patch, c: Compiled) -> Loaded
     ensures { λ r. ⌜ r ≡ loaded v patch c ⌝ }
 {

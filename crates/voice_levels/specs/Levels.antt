@@ -1,4 +1,5 @@
--- The numbers of a sounding block, after voice.rs, with one rounding per written operation, in the Rust's order. Definitions only.
+-- The numbers of a sounding block, after voice.rs, with one rounding per written operation, in the Rust's order.
+-- Definitions only.
 use Prim.Native.Nat.{ℕ, zero, suc}
 use mathlib.Core.Bool.{Bool, true, cond}
 use mathlib.Core.List.{List}
@@ -29,7 +30,8 @@ use Rattle.voice_levels.specs.declared.Levels.{Levels}
 
 -- ---- envelopes
 
--- how envelopes run in a block of so many samples: the envelope control sets two scales, and the sample that a sustained voice is scrubbed to
+-- how envelopes run in a block of so many samples: the envelope control sets two scales, and the sample that a
+-- sustained voice is scrubbed to
 unfoldable pub timingFor : Bool → Bool → Float → Float → ℕ → Timing
 timingFor sustain gate sampleRate control samples = record {
   sustain = sustain;
@@ -57,7 +59,8 @@ taken e p = record { envelope = movedTo e (p .stage) (p .phase) (p .start); valu
 
 -- the note's frequency in turns a sample, with the pitch modulation in octaves; `high` and `low` are the ratio's tables
 unfoldable pub noteFrequency : List Float → List Float → Float → Float → Float → Float
-noteFrequency high low a0 note pitchMod = a0 ⊗ decimal 25 2 ⊗ ratioOf high low (note ⊖ decimal 9 0 ⊕ pitchMod ⊗ decimal 12 0)
+noteFrequency high low a0 note pitchMod =
+    a0 ⊗ decimal 25 2 ⊗ ratioOf high low (note ⊖ decimal 9 0 ⊕ pitchMod ⊗ decimal 12 0)
 
 -- an operator's frequency in turns a sample: its ratio to the note's, or to 1 Hz
 unfoldable pub frequencyBy : Float → Float → Ratio → Float
@@ -73,11 +76,15 @@ frequencyOf g t = frequencyBy (g .f0) (g .«one_hz») (t .ratio)
 unfoldable pub brightnessOf : Float → ℕ → Float
 brightnessOf brightness opcode = cond (modulating opcode) ((brightness ⊖ decimal 5 1) ⊗ decimal 32 0) (decimal 0 0)
 
--- what the keyboard, the velocity and the brightness add to an operator's level: an eighth of their sum, which is held at the headroom
+-- what the keyboard, the velocity and the brightness add to an operator's level: an eighth of their sum, which is held
+-- at the headroom
 unfoldable pub scalingOf : Scene → Operator → Float → ℕ → Float
 scalingOf g o headroom opcode =
     let k = o .«keyboard_scaling» in
-    let keyboard = keyboardScaling (g .note) (k .«left_depth») (k .«right_depth») (k .«left_curve») (k .«right_curve») (k .«break_point») in
+    let keyboard =
+    keyboardScaling (g .note) (k .«left_depth») (k .«right_depth») (k .«left_curve») (k .«right_curve»)
+    (k .«break_point»)
+    in
     let velocity = g .«normalized_velocity» ⊗ asFloat (o .«velocity_sensitivity») in
     decimal 125 3 ⊗ minimum (keyboard ⊕ velocity ⊕ brightnessOf (g .brightness) opcode) headroom
 
@@ -122,11 +129,16 @@ abbrev pub noTuned : Tuned
 noTuned = record { ratio = Note nan }
 
 -- the first operators, in order; the others keep their envelopes, and their steps and amplitudes are 0
-module _ (g : Scene) (ops : List Operator) (ratios : List Tuned) (headrooms : List Float) (row : List ℕ) (es : List Envelope) where
-  unfoldable pub leveledTo : ℕ → Levels
-  leveledTo zero = record { «operator_envelope» = es; steps = replicate 6 0; amplitudes = replicate 6 (decimal 0 0) }
-  leveledTo (suc k) =
-      putAt k (leveled g (operatorAt ops k) (getD ratios k noTuned) (getD headrooms k nan) (getD row k 0) (envelopeAt es k)) (leveledTo k)
+module _
+    (g : Scene) (ops : List Operator) (ratios : List Tuned) (headrooms : List Float) (row : List ℕ) (es : List Envelope)
+  where
+    unfoldable pub leveledTo : ℕ → Levels
+    leveledTo zero = record { «operator_envelope» = es; steps = replicate 6 0; amplitudes = replicate 6 (decimal 0 0) }
+    leveledTo (suc k) =
+        let one =
+        leveled g (operatorAt ops k) (getD ratios k noTuned) (getD headrooms k nan) (getD row k 0) (envelopeAt es k)
+        in
+        putAt k one (leveledTo k)
 
 -- ---- the same in two steps
 
@@ -135,16 +147,26 @@ unfoldable pub raised : Scene → Operator → Tuned → Float → ℕ → Envel
 raised g o tuned headroom opcode e =
     let rate = g .timing .«envelope_rate» ⊗ rateScaling (g .note) (o .«rate_scaling») in
     let f = followed (g .timing) true rate e in
-    record { envelope = f .envelope; step = stepFor (frequencyOf g tuned); amplitude = f .value ⊕ scalingOf g o headroom opcode }
+    record {
+      envelope = f .envelope;
+      step = stepFor (frequencyOf g tuned);
+      amplitude = f .value ⊕ scalingOf g o headroom opcode;
+    }
 
 -- an envelope taken to where it stands then
 abbrev pub raisedBy : Envelope → Raised → Leveled
 raisedBy e r = record { envelope = movedTo e (r .stage) (r .phase) (r .start); step = r .step; amplitude = r .level }
 
-module _ (g : Scene) (ops : List Operator) (ratios : List Tuned) (headrooms : List Float) (row : List ℕ) (es : List Envelope) where
-  unfoldable pub raisedTo : ℕ → Levels
-  raisedTo zero = record { «operator_envelope» = es; steps = replicate 6 0; amplitudes = replicate 6 (decimal 0 0) }
-  raisedTo (suc k) = putAt k (raised g (operatorAt ops k) (getD ratios k noTuned) (getD headrooms k nan) (getD row k 0) (envelopeAt es k)) (raisedTo k)
+module _
+    (g : Scene) (ops : List Operator) (ratios : List Tuned) (headrooms : List Float) (row : List ℕ) (es : List Envelope)
+  where
+    unfoldable pub raisedTo : ℕ → Levels
+    raisedTo zero = record { «operator_envelope» = es; steps = replicate 6 0; amplitudes = replicate 6 (decimal 0 0) }
+    raisedTo (suc k) =
+        let one =
+        raised g (operatorAt ops k) (getD ratios k noTuned) (getD headrooms k nan) (getD row k 0) (envelopeAt es k)
+        in
+        putAt k one (raisedTo k)
 
 -- then the amplitudes of the first levels
 module _ (g : Scene) (ops : List Operator) where

@@ -1,12 +1,14 @@
-// The numbers of a sounding block, after voice.rs's render: how fast the envelopes run, and for each operator its envelope, its
-// step and its amplitude. Helpers of the voice, which has checked its state and the patch.
+// The numbers of a sounding block, after voice.rs's render: how fast the envelopes run, and for each operator its
+// envelope, its step and its amplitude. Helpers of the voice, which has checked its state and the patch.
 ghost use mathlib.Core.Path.{_≡_};
 ghost use Prim.Native.Nat.{_≤_};
 ghost use lib.Dec.{T};
 ghost use Rattle.envelope.specs.Answers.{allStages};
 ghost use Rattle.patch.specs.Packed.{operatorsFit};
-ghost use Rattle.voice_levels.specs.Levels.{timingFor, followed, noteFrequency, frequencyOf, scalingOf, levelModOf, amplitudeOf};
-ghost use Rattle.voice_levels.specs.Levels.{brightnessOf, taken, raised, raisedTo, raisedBy, soundedTo, leveledTo};
+ghost use Rattle.voice_levels.specs.Levels.{timingFor, followed, noteFrequency, frequencyOf, scalingOf};
+ghost use Rattle.voice_levels.specs.Levels.{levelModOf, amplitudeOf};
+ghost use Rattle.voice_levels.specs.Levels.{brightnessOf, taken, raised, raisedTo, raisedBy, soundedTo};
+ghost use Rattle.voice_levels.specs.Levels.{leveledTo};
 use dx_units_inner::Ratio;
 use envelope::Envelope;
 use voice_setup::Tuned;
@@ -50,7 +52,7 @@ pub struct Scene {
     pub amp_mod: f32,
 }
 
-// The same before its level is an amplitude, with no more of its envelope than where it stands.
+// An operator before its level is an amplitude, with no more of its envelope than where it stands.
 pub struct Raised {
     pub stage: usize,
     pub phase: f32,
@@ -59,13 +61,15 @@ pub struct Raised {
     pub level: f32,
 }
 
-// And of all.
+// All operators of a block: envelopes, steps and amplitudes.
 pub struct Levels {
     pub operator_envelope: [Envelope; 6],
     pub steps: [u32; 6],
     pub amplitudes: [f32; 6],
 }
 
+// The envelope control sets how fast attack and decay run, how fast the release does (slowest reach at 0.3), and the
+// sample that a sustained voice is scrubbed to, within a gate of a second and a half.
 pub fn timing_for(
     sustain: bool,
     gate: bool,
@@ -135,7 +139,8 @@ fn place(t: Timing, reshape: bool, rate: f32, e: Envelope) -> Placed
     }
 }
 
-// The note's frequency in turns a sample, with the pitch modulation in octaves.
+// The note's frequency in turns a sample, with the pitch modulation in octaves. `a0` is 55 Hz; a quarter of it at note
+// 9.
 pub fn note_frequency(
     high: &[f32; 256],
     low: &[f32; 256],
@@ -281,8 +286,8 @@ fn sound_levels(g: Scene, operators: usize, op: [patch::Operator; 6], levels: [f
     l
 }
 
-// The first `operators` of six; the others keep their envelopes, and their steps and amplitudes are 0. Two loops, so that the
-// processor overlaps the operators in each.
+// The first `operators` of six; the others keep their envelopes, and their steps and amplitudes are 0. Two loops, so
+// that the processor overlaps the operators in each.
 pub fn level_operators(
     g: Scene,
     operators: usize,

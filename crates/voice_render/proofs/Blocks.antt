@@ -143,14 +143,14 @@ module _ (high low : List Float) (v : Voice) (p : VoiceParameters) (n : ℕ) whe
   unfolding begun
   begun-of et ef ex es = rw (ex, es, ef, et) refl
 
-module _ (lut high low : List Float) (v : Voice) (p : VoiceParameters) (block : List Float) where
+module _ (pairs high low : List Float) (v : Voice) (p : VoiceParameters) (block : List Float) where
   pub sounded-of : {b : Begun} {l : Levels} {os : List Operator} {r : Operators} {out : List Float} {w : Voice}
       → b ≡ begun high low v p (length block / 4)
       → l ≡ leveledTo (b .scene) (v .patch .op) (v .ratios) (v .«level_headroom») (v .row) (v .«operator_envelope») (v .operators)
       → os ≡ entering v p
-      → record { operators = r; block = out } ≡ ran lut (v .plan) (l .steps) (l .amplitudes) (v .patch .feedback) (record { operator = os; «feedback_state» = v .«feedback_state» }) block
+      → record { operators = r; block = out } ≡ ran pairs (v .plan) (l .steps) (l .amplitudes) (v .patch .feedback) (record { operator = os; «feedback_state» = v .«feedback_state» }) block
       → w ≡ after v p b l r
-      → record { voice = w; block = out } ≡ sounded lut high low v p block
+      → record { voice = w; block = out } ≡ sounded pairs high low v p block
   unfolding sounded played levelsFor
   sounded-of eb el eo er ew =
       let here = rw (el, eo, eb) at er in
@@ -158,36 +158,36 @@ module _ (lut high low : List Float) (v : Voice) (p : VoiceParameters) (block : 
 
 -- ---- the block's answer
 
-module _ (lut high low : List Float) (v : Voice) (p : VoiceParameters) (block : List Float) where
-  pub render-9 : stateFits v ≡ false → unsounded 9 v block ≡ renderAnswer lut high low v p block
+module _ (pairs high low : List Float) (v : Voice) (p : VoiceParameters) (block : List Float) where
+  pub render-9 : stateFits v ≡ false → unsounded 9 v block ≡ renderAnswer pairs high low v p block
   unfolding renderAnswer
   render-9 h = rw h refl
 
   module _ (state : stateFits v ≡ true) where
-    pub render-8 : blockFits (length block) ≡ false → unsounded 8 v block ≡ renderAnswer lut high low v p block
+    pub render-8 : blockFits (length block) ≡ false → unsounded 8 v block ≡ renderAnswer pairs high low v p block
     unfolding renderAnswer
     render-8 h = rw (state, h) refl
 
     module _ (size : blockFits (length block) ≡ true) where
-      pub render-7 : parametersFit p ≡ false → unsounded 7 v block ≡ renderAnswer lut high low v p block
+      pub render-7 : parametersFit p ≡ false → unsounded 7 v block ≡ renderAnswer pairs high low v p block
       unfolding renderAnswer
       render-7 h = rw (state, size, h) refl
 
       module _ (fits : parametersFit p ≡ true) where
         either : Bool → Answered
-        either b = cond b (unsounded 0 (setUp high low v) block) (sounding (sounded lut high low v p block))
+        either b = cond b (unsounded 0 (setUp high low v) block) (sounding (sounded pairs high low v p block))
 
-        pub render-blank : v .dirty ≡ true → {w : Voice} → w ≡ setUp high low v → unsounded 0 w block ≡ renderAnswer lut high low v p block
+        pub render-blank : v .dirty ≡ true → {w : Voice} → w ≡ setUp high low v → unsounded 0 w block ≡ renderAnswer pairs high low v p block
         unfolding renderAnswer either
         render-blank h e = rw (state, size, fits, e) (sym (ap either h))
 
-        pub render-sound : v .dirty ≡ false → {w : Voice} {out : List Float} → record { voice = w; block = out } ≡ sounded lut high low v p block
-            → unsounded 0 w out ≡ renderAnswer lut high low v p block
+        pub render-sound : v .dirty ≡ false → {w : Voice} {out : List Float} → record { voice = w; block = out } ≡ sounded pairs high low v p block
+            → unsounded 0 w out ≡ renderAnswer pairs high low v p block
         unfolding renderAnswer either
         render-sound h e = rw (state, size, fits) (ap sounding e ∙ sym (ap either h))
 
 -- with the tables made for one block
-pub with-tables : (v : Voice) (p : VoiceParameters) (block : List Float) {a : Answered} {lut high low : List Float}
-    → lut ≡ sinePairs → high ≡ lutPitchRatioHigh → low ≡ lutPitchRatioLow → a ≡ renderAnswer lut high low v p block
+pub with-tables : (v : Voice) (p : VoiceParameters) (block : List Float) {a : Answered} {pairs high low : List Float}
+    → pairs ≡ sinePairs → high ≡ lutPitchRatioHigh → low ≡ lutPitchRatioLow → a ≡ renderAnswer pairs high low v p block
     → a ≡ renderAnswer sinePairs lutPitchRatioHigh lutPitchRatioLow v p block
 with-tables v p block es eh el e = rw (es, eh, el) at e

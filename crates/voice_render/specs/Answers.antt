@@ -45,11 +45,11 @@ sounding s = record { number = 0; voice = s .voice; block = s .block }
 
 -- 9, 8, 7; a dirty voice's block is blank: it sets up, touches no buffer and does not record the gate
 unfoldable pub renderAnswer : List Float → List Float → List Float → Voice → VoiceParameters → List Float → Answered
-renderAnswer lut high low v p block =
+renderAnswer pairs high low v p block =
     cond (stateFits v)
     (cond (blockFits (length block))
     (cond (parametersFit p)
-    (cond (v .dirty) (unsounded 0 (setUp high low v) block) (sounding (sounded lut high low v p block)))
+    (cond (v .dirty) (unsounded 0 (setUp high low v) block) (sounding (sounded pairs high low v p block)))
     (unsounded 7 v block))
     (unsounded 8 v block))
     (unsounded 9 v block)

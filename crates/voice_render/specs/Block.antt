@@ -1,4 +1,5 @@
--- A sounding block of a voice, after voice.rs's render, with one rounding per written operation, in the Rust's order. Definitions only.
+-- A sounding block of a voice, after voice.rs's render, with one rounding per written operation, in the Rust's order.
+-- Definitions only.
 use Prim.Native.Nat.{ℕ, _/_}
 use mathlib.Core.Bool.{Bool, false, cond, not, _&&_, _||_}
 use mathlib.Core.List.{List, [], _∷_}
@@ -55,7 +56,9 @@ abbrev pub restartedAt : List Operator → ℕ → Operator
 restartedAt os i = restarted (getD os i noOperator)
 
 unfoldable pub allRestarted : List Operator → List Operator
-allRestarted os = restartedAt os 0 ∷ restartedAt os 1 ∷ restartedAt os 2 ∷ restartedAt os 3 ∷ restartedAt os 4 ∷ restartedAt os 5 ∷ []
+allRestarted os =
+    restartedAt os 0 ∷ restartedAt os 1 ∷ restartedAt os 2 ∷ restartedAt os 3 ∷ restartedAt os 4 ∷ restartedAt os 5
+    ∷ []
 
 -- the operators that enter a block: phases start anew at a note-on whose patch asks for it
 unfoldable pub entering : Voice → VoiceParameters → List Operator
@@ -89,16 +92,19 @@ pub record Sounded : Type 0 where
   pub voice : Voice
   pub block : List Float
 
-module _ (lut high low : List Float) (v : Voice) (p : VoiceParameters) where
+module _ (pairs high low : List Float) (v : Voice) (p : VoiceParameters) where
   -- steps and amplitudes in a block of n samples
   unfoldable pub levelsFor : ℕ → Levels
-  levelsFor n = leveledTo (begun high low v p n .scene) (v .patch .op) (v .ratios) (v .«level_headroom») (v .row) (v .«operator_envelope») (v .operators)
+  levelsFor n =
+      leveledTo (begun high low v p n .scene) (v .patch .op) (v .ratios) (v .«level_headroom») (v .row)
+      (v .«operator_envelope») (v .operators)
 
   -- the plan's calls over the block
   unfoldable pub played : List Float → Ran
   played block =
       let l = levelsFor (length block / 4) in
-      ran lut (v .plan) (l .steps) (l .amplitudes) (v .patch .feedback) (record { operator = entering v p; «feedback_state» = v .«feedback_state» }) block
+      let before : Operators = record { operator = entering v p; «feedback_state» = v .«feedback_state» } in
+      ran pairs (v .plan) (l .steps) (l .amplitudes) (v .patch .feedback) before block
 
   unfoldable pub sounded : List Float → Sounded
   sounded block =

@@ -35,7 +35,14 @@ withSetup v pitch s = record {
 unfoldable pub setUp : List Float → List Float → Voice → Voice
 setUp high low v =
     let p = v .patch in
-    let before : Setup = record { «operator_envelope» = v .«operator_envelope»; ratios = v .ratios; «level_headroom» = v .«level_headroom» } in
+    let before : Setup =
+    record {
+      «operator_envelope» = v .«operator_envelope»;
+      ratios = v .ratios;
+      «level_headroom» = v .«level_headroom»;
+    }
+    in
+    let pitch = pitchSet (v .«pitch_envelope») (p .«pitch_envelope» .rate) (p .«pitch_envelope» .level) in
     cond (v .«has_patch»)
-    (withSetup v (pitchSet (v .«pitch_envelope») (p .«pitch_envelope» .rate) (p .«pitch_envelope» .level)) (setUpTo high low (p .op) (v .operators) before))
+    (withSetup v pitch (setUpTo high low (p .op) (v .operators) before))
     v

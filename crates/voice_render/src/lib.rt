@@ -1,6 +1,6 @@
-// A block of a DX7 voice, after voice.rs's render: the voice goes in and comes back by value. It refuses in document 01's order
-// (9, 8, 7), and its promise names the answer and the whole block for every input: a refusal hands back the voice as it came and
-// touches no buffer.
+// A block of a DX7 voice, after voice.rs's render: the voice goes in and comes back by value. It refuses in document
+// 01's order (9, 8, 7), and its promise names the answer and the whole block for every input: a refusal hands back the
+// voice as it came and touches no buffer.
 ghost use mathlib.Core.Path.{_≡_};
 ghost use mathlib.Core.Bool.{false};
 ghost use Prim.Native.Nat.{_≤_};
@@ -83,7 +83,7 @@ fn with_setup(v: Voice, pitch_envelope: Envelope, s: Setup) -> Voice
     w
 }
 
-// Everything that can be computed once a patch is loaded: envelopes and frequency ratios.
+// What is computed once for a patch: envelopes, headroom and frequency ratios. A voice without one stays dirty.
 fn setup(high: &[f32; 256], low: &[f32; 256], v: Voice) -> Voice
     requires { ⌜ T (stateFits v) ⌝ }
     ensures { λ r. ⌜ r ≡ setUp (now (high .entry)) (now (low .entry)) v ⌝ }
@@ -110,13 +110,14 @@ fn setup(high: &[f32; 256], low: &[f32; 256], v: Voice) -> Voice
     with_setup(v, pitch, s)
 }
 
+// The gate opens: it was closed in the last block that sounded.
 fn note_on(v: Voice, p: VoiceParameters) -> bool
     ensures { λ r. ⌜ r ≡ noteOn v p ⌝ }
 {
     p.gate & !v.gate
 }
 
-// Note and velocity are sampled when a trigger is received, or constantly in a sustained voice.
+// Note and velocity are taken where a note begins, and in a sustained voice in each block: scalings go by them.
 fn strike(v: Voice, p: VoiceParameters) -> Struck
     ensures { λ r. ⌜ r ≡ struck v p ⌝ }
 {
@@ -206,8 +207,8 @@ fn leave(v: Voice, p: VoiceParameters, b: Begun, l: Levels, os: Operators) -> Vo
 }
 
 // A sounding block: envelopes, frequencies and amplitudes first, then the plan's calls.
-fn sound(
-    lut: &[f32; 1024],
+fn render_sounding(
+    pairs: &[f32; 1024],
     high: &[f32; 256],
     low: &[f32; 256],
     v: Voice,
@@ -215,7 +216,8 @@ fn sound(
     block: &mut [f32],
 ) -> Voice
     requires { ⌜ T (stateFits v) × (v .dirty ≡ false) × T (blockFits (length (now block))) ⌝ }
-    ensures { λ r. ⌜ record { voice = r; block = now (block .exit) } ≡ sounded (now (lut .entry)) (now (high .entry)) (now (low .entry)) v p (now (block .entry)) ⌝ }
+    ensures { λ r. ⌜ record { voice = r; block = now (block .exit) }
+        ≡ sounded (now (pairs .entry)) (now (high .entry)) (now (low .entry)) v p (now (block .entry)) ⌝ }
 {
     let n = block.len() / 4;
     let b = begin(high, low, v, p, n as u32);
@@ -236,20 +238,31 @@ fn sound(
     let plan = v.plan;
     let steps = l.steps;
     let amplitudes = l.amplitudes;
-    let os = voice_block::run_plan(lut, plan, before, steps, amplitudes, patch.feedback, block);
+    let os = voice_block::run_plan(
+        pairs,
+        plan,
+        before,
+        steps,
+        amplitudes,
+        patch.feedback,
+        block,
+    );
     leave(v, p, b, l, os)
 }
 
-// A block, with the tables lent. A dirty voice's is blank: it sets up.
+// A block, with the tables lent. A dirty voice's is blank: it sets up and touches no buffer. The old hardware had no
+// time for both in one block, and a short clean gap before a new patch was preferred to a glitch. A blank block does
+// not record the gate, so the note that is held over it is struck in the block behind it.
 pub fn render_with(
-    lut: &[f32; 1024],
+    pairs: &[f32; 1024],
     high: &[f32; 256],
     low: &[f32; 256],
     v: Voice,
     p: VoiceParameters,
     block: &mut [f32],
 ) -> Rendered
-    ensures { λ r. ⌜ record { number = r .number; voice = r .voice; block = now (block .exit) } ≡ renderAnswer (now (lut .entry)) (now (high .entry)) (now (low .entry)) v p (now (block .entry)) ⌝ }
+    ensures { λ r. ⌜ record { number = r .number; voice = r .voice; block = now (block .exit) }
+        ≡ renderAnswer (now (pairs .entry)) (now (high .entry)) (now (low .entry)) v p (now (block .entry)) ⌝ }
 {
     if !voice::state_fits(v) {
         return Rendered {
@@ -277,13 +290,14 @@ pub fn render_with(
     }
     Rendered {
         number: 0,
-        voice: sound(lut, high, low, v, p, block),
+        voice: render_sounding(pairs, high, low, v, p, block),
     }
 }
 
 // A block: the output and scratch 1 to 3, a quarter each.
 pub fn render(v: Voice, p: VoiceParameters, block: &mut [f32]) -> Rendered
-    ensures { λ r. ⌜ record { number = r .number; voice = r .voice; block = now (block .exit) } ≡ renderAnswer sinePairs lutPitchRatioHigh lutPitchRatioLow v p (now (block .entry)) ⌝ }
+    ensures { λ r. ⌜ record { number = r .number; voice = r .voice; block = now (block .exit) }
+        ≡ renderAnswer sinePairs lutPitchRatioHigh lutPitchRatioLow v p (now (block .entry)) ⌝ }
 {
     let pairs = sine::sine_pairs();
     let high = units::lut_pitch_ratio_high();

@@ -1,5 +1,5 @@
-// What can be computed once a patch is loaded, after voice.rs's setup: for each operator its envelope, its headroom and its
-// frequency ratio. Helpers of the voice, which has checked the patch.
+// What can be computed once a patch is loaded, after voice.rs's setup: for each operator its envelope, its headroom and
+// its frequency ratio. Helpers of the voice, which has checked the patch.
 ghost use mathlib.Core.Path.{_≡_};
 ghost use Prim.Native.Nat.{_≤_};
 ghost use lib.Dec.{T};
@@ -27,8 +27,8 @@ pub struct Setup {
     pub level_headroom: [f32; 6],
 }
 
-// The level increase caused by keyboard scaling plus velocity scaling is held at this number: more would be an operator with a
-// level above 99.
+// The level increase caused by keyboard scaling plus velocity scaling is held at this number: more would be an operator
+// with a level above 99.
 fn headroom(level: u8) -> f32
     requires { ⌜ level ≤ 127 ⌝ }
     ensures { λ r. ⌜ r ≡ headroomOf level ⌝ }

@@ -11,24 +11,24 @@ is-counted-requires c κs = search needs
 returns : tie.Need-returns
 returns c = no-count _ (refused (c .before .is-counted .ensures) (c .if1 .taken))
 
-stages-fit-requires : tie.Need-stages-fit-requires
-stages-fit-requires c κs = search needs
+all-stages-requires : tie.Need-all-stages-requires
+all-stages-requires c κs = search needs
 
 returns-2 : tie.Need-returns-2
 returns-2 c =
     let at-if1 = c .before .before .before in
     let at-is-counted = at-if1 .before in
     no-stages _ (accepted (at-is-counted .is-counted .ensures) (at-if1 .if1 .left))
-    (refused (c .before .stages-fit .ensures) (c .if2 .taken))
+    (refused (c .before .all-stages .ensures) (c .if2 .taken))
 
 returns-3 : tie.Need-returns-3
 returns-3 c =
     let at-if2 = c .before .before .before in
-    let at-stages-fit = at-if2 .before in
-    let at-if1 = at-stages-fit .before .before in
+    let at-all-stages = at-if2 .before in
+    let at-if1 = at-all-stages .before .before in
     let at-is-counted = at-if1 .before in
     no-pitch _ (accepted (at-is-counted .is-counted .ensures) (at-if1 .if1 .left))
-    (accepted (at-stages-fit .stages-fit .ensures) (at-if2 .if2 .left)) (c .if3 .taken)
+    (accepted (at-all-stages .all-stages .ensures) (at-if2 .if2 .left)) (c .if3 .taken)
 
 patch-sound-requires : tie.Need-patch-sound-requires
 patch-sound-requires c κs = search needs
@@ -38,21 +38,21 @@ returns-4 c =
     let at-if4 = c .before .before .before .before in
     let at-if3 = at-if4 .before in
     let at-if2 = at-if3 .before .before .before in
-    let at-stages-fit = at-if2 .before in
-    let at-if1 = at-stages-fit .before .before in
+    let at-all-stages = at-if2 .before in
+    let at-if1 = at-all-stages .before .before in
     let at-is-counted = at-if1 .before in
     with-patch _ (accepted (at-is-counted .is-counted .ensures) (at-if1 .if1 .left))
-    (accepted (at-stages-fit .stages-fit .ensures) (at-if2 .if2 .left)) (at-if3 .if3 .left) (at-if4 .if4 .taken)
+    (accepted (at-all-stages .all-stages .ensures) (at-if2 .if2 .left)) (at-if3 .if3 .left) (at-if4 .if4 .taken)
     (c .patch-sound .ensures)
 
 returns-5 : tie.Need-returns-5
 returns-5 c =
     let at-if2 = c .before .before .before .before in
-    let at-stages-fit = at-if2 .before in
-    let at-if1 = at-stages-fit .before .before in
+    let at-all-stages = at-if2 .before in
+    let at-if1 = at-all-stages .before .before in
     let at-is-counted = at-if1 .before in
     without-patch _ (accepted (at-is-counted .is-counted .ensures) (at-if1 .if1 .left))
-    (accepted (at-stages-fit .stages-fit .ensures) (at-if2 .if2 .left)) (c .before .if3 .left) (c .if4 .left)
+    (accepted (at-all-stages .all-stages .ensures) (at-if2 .if2 .left)) (c .before .if3 .left) (c .if4 .left)
 
 pub state-fits-spec : {M : Type 1} → statement M
 state-fits-spec =
@@ -60,7 +60,7 @@ state-fits-spec =
     (tie.spec
     is-counted-requires
     returns
-    stages-fit-requires
+    all-stages-requires
     returns-2
     returns-3
     patch-sound-requires

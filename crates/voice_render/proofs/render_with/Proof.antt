@@ -52,8 +52,8 @@ returns-4 c =
     (accepted (at-parameters-fit .parameters-fit .ensures) (c .before .before .if3 .left)) (c .before .if4 .taken)
     (c .setup .ensures)
 
-sound-requires : tie.Need-sound-requires
-sound-requires c κs =
+render-sounding-requires : tie.Need-render-sounding-requires
+render-sounding-requires c κs =
     let at-if2 = c .before .before .before .before in
     let at-block-fits = at-if2 .before in
     let at-if1 = at-block-fits .before in
@@ -75,7 +75,7 @@ returns-5 c =
     render-sound _ _ _ _ _ _ (accepted (at-state-fits .state-fits .ensures) (at-if1 .if1 .left))
     (accepted (at-block-fits .block-fits .ensures) (at-if2 .if2 .left))
     (accepted (at-parameters-fit .parameters-fit .ensures) (at-if3 .if3 .left)) (at-if4 .if4 .left)
-    (c .before .before .sound .ensures)
+    (c .before .before .render-sounding .ensures)
 
 pub render-with-spec : {M : Type 1} → statement M
 render-with-spec =
@@ -89,6 +89,6 @@ render-with-spec =
     returns-3
     setup-requires
     returns-4
-    sound-requires
+    render-sounding-requires
     same-length
     returns-5)

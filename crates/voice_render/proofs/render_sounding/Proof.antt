@@ -1,4 +1,4 @@
--- `voice_render::sound` meets its contract. Assumes nothing.
+-- `voice_render::render_sounding` meets its contract. Assumes nothing.
 use native.Mathlib.Omega.{arith}
 use borrow.Author.Needs.{needs}
 use mathlib.Core.Path.{sym, subst}
@@ -6,8 +6,8 @@ use Rattle.voice_block.specs.Calls.{Playable}
 use Rattle.voice_block.proofs.Accepted.{accepted-playable}
 use Rattle.voice.proofs.States.{state-fits, stored, clean-has}
 use Rattle.voice_render.proofs.Blocks.{count-at-most-6, operators-of, block-small, block-whole, sounded-of}
-use Rattle.voice_render.proofs.sound.Statement.{statement}
-use Rattle.voice_render.proofs.sound.Tie as tie
+use Rattle.voice_render.proofs.render_sounding.Statement.{statement}
+use Rattle.voice_render.proofs.render_sounding.Tie as tie
 
 cast-begin : tie.Need-cast-begin
 cast-begin c = let small = block-small _ (c .before .pre .2) in omega arith
@@ -45,8 +45,8 @@ returns c =
     sounded-of _ _ _ _ _ _ (at-begin .begin .ensures) (at-level-operators .level-operators .ensures)
     (at-enter .enter .ensures) (at-run-plan .run-plan .ensures) (c .leave .ensures)
 
-pub sound-spec : {M : Type 1} → statement M
-sound-spec =
+pub render-sounding-spec : {M : Type 1} → statement M
+render-sounding-spec =
     tie.close
     (tie.spec
     cast-begin

@@ -1,8 +1,8 @@
--- `voice::stages_fit` meets its contract. Assumes nothing.
+-- `voice::all_stages` meets its contract. Assumes nothing.
 use borrow.Author.Needs.{needs}
 use Rattle.voice.proofs.Tests.{six-stages}
-use Rattle.voice.proofs.stages_fit.Statement.{statement}
-use Rattle.voice.proofs.stages_fit.Tie as tie
+use Rattle.voice.proofs.all_stages.Statement.{statement}
+use Rattle.voice.proofs.all_stages.Tie as tie
 
 element-copy-out-result : tie.Need-element-copy-out-result
 element-copy-out-result c = search needs
@@ -25,8 +25,8 @@ element-copy-out-result-6 c = search needs
 returns : tie.Need-returns
 returns c = six-stages _ (search needs)
 
-pub stages-fit-spec : {M : Type 1} → statement M
-stages-fit-spec =
+pub all-stages-spec : {M : Type 1} → statement M
+all-stages-spec =
     tie.close
     (tie.spec
     element-copy-out-result
