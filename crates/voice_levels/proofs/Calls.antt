@@ -21,7 +21,7 @@ use Rattle.voice_levels.specs.Levels.{Leveled}
 use Rattle.voice_levels.specs.declared.Raised.{Raised}
 use Rattle.voice_levels.specs.declared.Levels.{Levels}
 use Rattle.voice_levels.specs.Levels.{followed, taken, frequencyOf, scalingOf, amplitudeOf, putAt, noTuned}
-use Rattle.voice_levels.specs.Levels.{raised, raisedBy, raisedTo, soundedTo}
+use Rattle.voice_levels.specs.Levels.{raised, raisedBy, raisedTo, amplitudesTo}
 
 pub raised-of : (g : Scene) (o : Operator) (tuned : Tuned) (headroom : Float) (opcode : ℕ) (e : Envelope) {hz scale s : Float} {step : ℕ} {p : Placed}
     → hz ≡ frequencyOf g tuned
@@ -48,8 +48,8 @@ raised-next g ops ratios headrooms row es k el er ee = rw (add-one k, el, ee, �
 
 -- one amplitude more
 pub sounded-next : (g : Scene) (ops : List Operator) (levels : List Float) (k : ℕ) {l : List Float} {a : Float}
-    → l ≡ soundedTo g ops levels k
+    → l ≡ amplitudesTo g ops levels k
     → a ≡ amplitudeOf (g .«amp_mod») (operatorAt ops k .«amp_mod_sensitivity») (getD l k nan)
-    → set l k a ≡ soundedTo g ops levels (k + 1)
-unfolding soundedTo
+    → set l k a ≡ amplitudesTo g ops levels (k + 1)
+unfolding amplitudesTo
 sounded-next g ops levels k el ea = rw (add-one k, ea, el)

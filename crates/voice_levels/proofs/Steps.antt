@@ -12,7 +12,7 @@ use Rattle.voice_setup.specs.declared.Tuned.{Tuned}
 use Rattle.voice_setup.specs.Setup.{envelopeAt}
 use Rattle.voice_levels.specs.declared.Scene.{Scene}
 use Rattle.voice_levels.specs.declared.Levels.{Levels}
-use Rattle.voice_levels.specs.Levels.{amplitudeOf, leveled, putAt, noTuned, leveledTo, raised, raisedTo, soundedTo}
+use Rattle.voice_levels.specs.Levels.{amplitudeOf, leveled, putAt, noTuned, leveledTo, raised, raisedTo, amplitudesTo}
 
 module _ (f : Float → Float) where
   -- an element put in its place and changed there
@@ -34,19 +34,19 @@ module _ (g : Scene) (ops : List Operator) where
   at k = amplitudeOf (g .«amp_mod») (operatorAt ops k .«amp_mod_sensitivity»)
 
   -- the first amplitudes do not ask for a later level
-  sounded-put : (n : ℕ) (x : Float) (xs : List Float) (k : ℕ) → k ≤ n → soundedTo g ops (set xs n x) k ≡ set (soundedTo g ops xs k) n x
-  unfolding soundedTo
+  sounded-put : (n : ℕ) (x : Float) (xs : List Float) (k : ℕ) → k ≤ n → amplitudesTo g ops (set xs n x) k ≡ set (amplitudesTo g ops xs k) n x
+  unfolding amplitudesTo
   sounded-put n x xs zero h = refl
   sounded-put n x xs (suc k) h =
       ap (λ (s : List Float). set s k (at k (getD s k nan))) (sounded-put n x xs k (omega arith))
-      ∙ set-earlier (at k) (soundedTo g ops xs k) k n x (omega arith)
+      ∙ set-earlier (at k) (amplitudesTo g ops xs k) k n x (omega arith)
 
   -- and its own is the amplitude of its level
-  sounded-last : (n : ℕ) (x : Float) (xs : List Float) → soundedTo g ops (set xs n x) (suc n) ≡ set (soundedTo g ops xs n) n (at n x)
-  unfolding soundedTo
+  sounded-last : (n : ℕ) (x : Float) (xs : List Float) → amplitudesTo g ops (set xs n x) (suc n) ≡ set (amplitudesTo g ops xs n) n (at n x)
+  unfolding amplitudesTo
   sounded-last n x xs =
       ap (λ (s : List Float). set s n (at n (getD s n nan))) (sounded-put n x xs n (omega arith))
-      ∙ set-changed (at n) (soundedTo g ops xs n) n x
+      ∙ set-changed (at n) (amplitudesTo g ops xs n) n x
 
 -- levels with other amplitudes
 abbrev with-amplitudes : Levels → List Float → Levels
@@ -57,8 +57,8 @@ module _ (g : Scene) (ops : List Operator) (ratios : List Tuned) (headrooms : Li
   to = raisedTo g ops ratios headrooms row es
 
   -- the two steps together
-  sounded-raised : (n : ℕ) → with-amplitudes (to n) (soundedTo g ops (to n .amplitudes) n) ≡ leveledTo g ops ratios headrooms row es n
-  unfolding raisedTo leveledTo raised leveled putAt soundedTo
+  sounded-raised : (n : ℕ) → with-amplitudes (to n) (amplitudesTo g ops (to n .amplitudes) n) ≡ leveledTo g ops ratios headrooms row es n
+  unfolding raisedTo leveledTo raised leveled putAt amplitudesTo
   sounded-raised zero = refl
   sounded-raised (suc n) =
       let o = operatorAt ops n in
@@ -67,6 +67,6 @@ module _ (g : Scene) (ops : List Operator) (ratios : List Tuned) (headrooms : Li
       ap (with-amplitudes (to (suc n))) (sounded-last g ops n level (to n .amplitudes))
       ∙ ap (putAt n one) (sounded-raised n)
 
-  pub sounded-is-leveled : (n : ℕ) {l : Levels} {amplitudes : List Float} → l ≡ to n → amplitudes ≡ soundedTo g ops (l .amplitudes) n
+  pub sounded-is-leveled : (n : ℕ) {l : Levels} {amplitudes : List Float} → l ≡ to n → amplitudes ≡ amplitudesTo g ops (l .amplitudes) n
       → with-amplitudes l amplitudes ≡ leveledTo g ops ratios headrooms row es n
   sounded-is-leveled n el ea = rw (ea, el) (sounded-raised n)

@@ -170,8 +170,8 @@ module _
 
 -- then the amplitudes of the first levels
 module _ (g : Scene) (ops : List Operator) where
-  unfoldable pub soundedTo : List Float → ℕ → List Float
-  soundedTo levels zero = levels
-  soundedTo levels (suc k) =
-      let s = soundedTo levels k in
+  unfoldable pub amplitudesTo : List Float → ℕ → List Float
+  amplitudesTo levels zero = levels
+  amplitudesTo levels (suc k) =
+      let s = amplitudesTo levels k in
       set s k (amplitudeOf (g .«amp_mod») (operatorAt ops k .«amp_mod_sensitivity») (getD s k nan))

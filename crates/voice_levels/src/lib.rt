@@ -7,7 +7,7 @@ ghost use Rattle.envelope.specs.Answers.{allStages};
 ghost use Rattle.patch.specs.Packed.{operatorsFit};
 ghost use Rattle.voice_levels.specs.Levels.{timingFor, followed, noteFrequency, frequencyOf, scalingOf};
 ghost use Rattle.voice_levels.specs.Levels.{levelModOf, amplitudeOf};
-ghost use Rattle.voice_levels.specs.Levels.{brightnessOf, taken, raised, raisedTo, raisedBy, soundedTo};
+ghost use Rattle.voice_levels.specs.Levels.{brightnessOf, taken, raised, raisedTo, raisedBy, amplitudesTo};
 ghost use Rattle.voice_levels.specs.Levels.{leveledTo};
 use dx_units_inner::Ratio;
 use envelope::Envelope;
@@ -272,9 +272,9 @@ fn raise_operators(
 }
 
 // The first operators' amplitudes, of their levels.
-fn sound_levels(g: Scene, operators: usize, op: [patch::Operator; 6], levels: [f32; 6]) -> [f32; 6]
+fn amplitudes_of(g: Scene, operators: usize, op: [patch::Operator; 6], levels: [f32; 6]) -> [f32; 6]
     requires { ⌜ (operators ≤ 6) × T (operatorsFit op) ⌝ }
-    ensures { λ r. ⌜ r ≡ soundedTo g op levels operators ⌝ }
+    ensures { λ r. ⌜ r ≡ amplitudesTo g op levels operators ⌝ }
 {
     let mut l = levels;
     let mut i = 0usize;
@@ -310,7 +310,7 @@ pub fn level_operators(
         operator_envelope,
     );
     let levels = l.amplitudes;
-    let amplitudes = sound_levels(g, operators, op, levels);
+    let amplitudes = amplitudes_of(g, operators, op, levels);
     l.amplitudes = amplitudes;
     l
 }

@@ -1,22 +1,22 @@
--- `voice_levels::sound_levels` meets its contract. The loop's invariant: the numbers are what the first i amplitudes make of the levels. Assumes nothing.
+-- `voice_levels::amplitudes_of` meets its contract. The loop's invariant: the numbers are what the first i amplitudes make of the levels. Assumes nothing.
 use mathlib.Core.Path.{_≡_, refl}
 use Prim.Native.Nat.{_-_, _≤_}
 use native.Mathlib.Omega.{arith}
 use Rattle.patch.specs.Form.{operatorAt, noOperator, scalingWith}
-use Rattle.voice_levels.specs.Levels.{soundedTo}
+use Rattle.voice_levels.specs.Levels.{amplitudesTo}
 use Rattle.voice_setup.proofs.Operators.{limits, operator-at-fits}
 use Rattle.voice_levels.proofs.Calls.{sounded-next}
-use Rattle.voice_levels.proofs.sound_levels.Statement.{statement}
-use Rattle.voice_levels.proofs.sound_levels.Tie as tie
+use Rattle.voice_levels.proofs.amplitudes_of.Statement.{statement}
+use Rattle.voice_levels.proofs.amplitudes_of.Tie as tie
 
 abbrev Inv-loop : tie.InvT-loop
-Inv-loop g operators op l₀ i₀ l i = (i ≤ operators) × (l ≡ soundedTo g op l₀ i)
+Inv-loop g operators op l₀ i₀ l i = (i ≤ operators) × (l ≡ amplitudesTo g op l₀ i)
 
 abbrev μ-loop : tie.MeasureT-loop
 μ-loop g operators op l₀ i₀ l i = operators - i
 
 loop-holds : tie.Need-loop-holds Inv-loop μ-loop
-unfolding soundedTo
+unfolding amplitudesTo
 loop-holds c = (omega arith, refl)
 
 mul-o : tie.Need-mul-o Inv-loop μ-loop
@@ -62,8 +62,8 @@ returns c =
     let all : c .before .loop .i ≡ c .before .before .args .operators = omega arith in
     rw all at (c .before .loop .inv .1)
 
-pub sound-levels-spec : {M : Type 1} → statement M
-sound-levels-spec =
+pub amplitudes-of-spec : {M : Type 1} → statement M
+amplitudes-of-spec =
     tie.close
     (tie.spec
     Inv-loop
