@@ -108,17 +108,17 @@ pub extern "C" fn bench_render_external(
     if modulation.len() < out.len() {
         return 0;
     }
-    external_blocks(blocks, size, frequency, target, add, modulation, out)
+    external_blocks(modulation, out, blocks, size, frequency, target, add)
 }
 
 fn external_blocks(
+    modulation: &[f32],
+    out: &mut [f32],
     blocks: u32,
     size: u32,
     frequency: f32,
     target: f32,
     add: u8,
-    modulation: &[f32],
-    out: &mut [f32],
 ) -> u32
     requires { ⌜ length (now out) ≤ length (now modulation) ⌝ }
 {
@@ -144,8 +144,8 @@ pub extern "C" fn bench_render_feedback(
     out: &mut [f32],
 ) -> u32 {
     let pairs = sine::sine_pairs();
-    let mut s = silent();
     let mut k = 0u32;
+    let mut s = silent();
     while k < blocks {
         let from = entered(s, size, frequency, target);
         s = operator::render_feedback(
@@ -357,7 +357,7 @@ fn mixed_call(c: Call) -> u8 {
 
 // Blocks of a voice, one after the other in the same place; the phase of its last operator.
 fn sounded(
-    lut: &[f32; 1024],
+    pairs: &[f32; 1024],
     high: &[f32; 256],
     low: &[f32; 256],
     first: Voice,
@@ -368,7 +368,7 @@ fn sounded(
     let mut v = first;
     let mut k = 0u32;
     while k < blocks {
-        let r = voice_render::render_with(lut, high, low, v, p, block);
+        let r = voice_render::render_with(pairs, high, low, v, p, block);
         let w = r.voice;
         v = w;
         k += 1;

@@ -122,13 +122,13 @@ fn parameters(note: f32, gate: bool, pitch_mod: f32, amp_mod: f32) -> VoiceParam
 // One block: the LFO reads the sine's table, the voice its pairs. The scratch quarters are cleared with the output:
 // nothing that is heard depends on them.
 fn play_block(
+    s: Playing,
+    note: f32,
+    gate: bool,
     lut: &[f32; 641],
     pairs: &[f32; 1024],
     high: &[f32; 256],
     low: &[f32; 256],
-    note: f32,
-    gate: bool,
-    s: Playing,
 ) -> Playing
     ensures { λ r. ⌜ r
         ≡ blockPlayed (now (lut .entry)) (now (pairs .entry)) (now (high .entry)) (now (low .entry)) note gate s ⌝ }
@@ -169,7 +169,7 @@ fn play_blocks(
     let mut s = before;
     let mut i = 0u32;
     while i < n {
-        s = play_block(lut, pairs, high, low, note, gate, s);
+        s = play_block(s, note, gate, lut, pairs, high, low);
         i += 1;
     }
     s

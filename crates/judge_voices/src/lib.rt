@@ -194,7 +194,7 @@ fn render_part(
 ) -> usize {
     let first = 0usize;
     let size = sized(numbers_of(entry, s), block.len());
-    render_block(entry, s, registers, out, &mut block[first..size])
+    render_block(&mut block[first..size], entry, s, registers, out)
 }
 
 fn sized(n: u32, room: usize) -> usize
@@ -214,11 +214,11 @@ fn numbers_of(entry: u8, s: &[u8]) -> u32 {
 }
 
 fn render_block(
+    block: &mut [f32],
     entry: u8,
     s: &[u8],
     registers: &mut [u8],
     out: &mut [u8],
-    block: &mut [f32],
 ) -> usize {
     fill(entry, s, block);
     let number = render_register(entry, s, registers, block);

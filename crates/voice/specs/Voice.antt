@@ -10,8 +10,12 @@ use Rattle.patch.specs.Form.{zeroPatch}
 use Rattle.algorithms.specs.declared.Plan.{Plan}
 use Rattle.algorithms.specs.Plan.{noPlan}
 use Rattle.algorithms.specs.Table.{six}
+use Rattle.envelope.specs.declared.Envelope.{Envelope}
 use Rattle.envelope.specs.Envelope.{initialised}
+use Rattle.operator.specs.declared.Operator.{Operator}
+use Rattle.operator.specs.declared.Feedback.{Feedback}
 use Rattle.operator.specs.Sample.{still}
+use Rattle.voice_setup.specs.declared.Tuned.{Tuned}
 use Rattle.voice.specs.declared.Voice.{Voice}
 
 -- six times the same
@@ -51,28 +55,74 @@ freshVoice operators sampleRate = voiceWith operators sampleRate (decimal 1 0 �
 unfoldable pub noVoice : Voice
 noVoice = voiceWith 0 (decimal 0 0) (decimal 0 0) (decimal 0 0)
 
--- the same voice, dirty, with another patch, row and plan or with none
-unfoldable pub withPatch : Voice → Bool → Patch → List ℕ → Plan → Voice
-withPatch v has p row plan = record {
+-- ---- a voice with other parts: what every change of a voice is said by
+
+-- what a sounding block moves
+pub record Moving : Type 0 where
+  pub gate : Bool
+  pub operator : List Operator
+  pub envelopes : List Envelope
+  pub pitch : Envelope
+  pub velocity : Float
+  pub note : Float
+  pub feedback : Feedback
+
+-- what is set up of a patch besides its envelopes
+pub record Tunings : Type 0 where
+  pub ratios : List Tuned
+  pub headroom : List Float
+
+-- a patch, its row and its plan, or none
+pub record Contents : Type 0 where
+  pub has : Bool
+  pub patch : Patch
+  pub row : List ℕ
+  pub plan : Plan
+
+abbrev pub movingOf : Voice → Moving
+movingOf v = record {
+  gate = v .gate;
+  operator = v .operator;
+  envelopes = v .«operator_envelope»;
+  pitch = v .«pitch_envelope»;
+  velocity = v .«normalized_velocity»;
+  note = v .note;
+  feedback = v .«feedback_state»;
+}
+
+abbrev pub tuningsOf : Voice → Tunings
+tuningsOf v = record { ratios = v .ratios; headroom = v .«level_headroom» }
+
+abbrev pub contentsOf : Voice → Contents
+contentsOf v = record { has = v .«has_patch»; patch = v .patch; row = v .row; plan = v .plan }
+
+-- the same voice with these parts, dirty or clean
+abbrev pub rebuilt : Voice → Moving → Tunings → Contents → Bool → Voice
+rebuilt v m t c isDirty = record {
   operators = v .operators;
   «sample_rate» = v .«sample_rate»;
   «one_hz» = v .«one_hz»;
   a0 = v .a0;
-  gate = v .gate;
-  operator = v .operator;
-  «operator_envelope» = v .«operator_envelope»;
-  «pitch_envelope» = v .«pitch_envelope»;
-  «normalized_velocity» = v .«normalized_velocity»;
-  note = v .note;
-  ratios = v .ratios;
-  «level_headroom» = v .«level_headroom»;
-  «feedback_state» = v .«feedback_state»;
-  «has_patch» = has;
-  patch = p;
-  row = row;
-  plan = plan;
-  dirty = true;
+  gate = m .gate;
+  operator = m .operator;
+  «operator_envelope» = m .envelopes;
+  «pitch_envelope» = m .pitch;
+  «normalized_velocity» = m .velocity;
+  note = m .note;
+  ratios = t .ratios;
+  «level_headroom» = t .headroom;
+  «feedback_state» = m .feedback;
+  «has_patch» = c .has;
+  patch = c .patch;
+  row = c .row;
+  plan = c .plan;
+  dirty = isDirty;
 }
+
+-- the same voice, dirty, with another patch, row and plan or with none
+unfoldable pub withPatch : Voice → Bool → Patch → List ℕ → Plan → Voice
+withPatch v has p row plan =
+    rebuilt v (movingOf v) (tuningsOf v) (record { has = has; patch = p; row = row; plan = plan }) true
 
 -- without a patch: the stored patch, row and plan are zero
 unfoldable pub withoutPatch : Voice → Voice

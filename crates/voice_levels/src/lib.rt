@@ -240,13 +240,13 @@ fn raise_operator(
 
 // The first operators' envelopes and steps, and in the amplitudes' place their levels.
 fn raise_operators(
+    operator_envelope: [Envelope; 6],
+    row: [u8; 6],
     g: Scene,
     operators: usize,
     op: [patch::Operator; 6],
     ratios: [Tuned; 6],
     level_headroom: [f32; 6],
-    row: [u8; 6],
-    operator_envelope: [Envelope; 6],
 ) -> Levels
     requires { ⌜ (operators ≤ 6) × T (allStages «operator_envelope») ⌝ }
     ensures { λ r. ⌜ r ≡ raisedTo g op ratios «level_headroom» row «operator_envelope» operators ⌝ }
@@ -301,13 +301,13 @@ pub fn level_operators(
     ensures { λ r. ⌜ r ≡ leveledTo g op ratios «level_headroom» row «operator_envelope» operators ⌝ }
 {
     let mut l = raise_operators(
+        operator_envelope,
+        row,
         g,
         operators,
         op,
         ratios,
         level_headroom,
-        row,
-        operator_envelope,
     );
     let levels = l.amplitudes;
     let amplitudes = amplitudes_of(g, operators, op, levels);

@@ -14,6 +14,7 @@ use Rattle.voice_block.specs.Calls.{noOperator, Ran, ran}
 use Rattle.voice_levels.specs.declared.Levels.{Levels}
 use Rattle.voice_levels.specs.Levels.{timingFor, followed, noteFrequency, leveledTo}
 use Rattle.voice.specs.declared.Voice.{Voice}
+use Rattle.voice.specs.Voice.{Moving, tuningsOf, contentsOf, rebuilt}
 use Rattle.voice_render.specs.declared.VoiceParameters.{VoiceParameters}
 use Rattle.voice_render.specs.declared.Struck.{Struck}
 use Rattle.voice_render.specs.declared.Begun.{Begun}
@@ -66,26 +67,19 @@ entering v p = cond (noteOn v p && not (eqb (v .patch .«reset_phase») 0)) (all
 
 -- the voice after a block
 unfoldable pub after : Voice → VoiceParameters → Begun → Levels → Operators → Voice
-after v p b l os = record {
-  operators = v .operators;
-  «sample_rate» = v .«sample_rate»;
-  «one_hz» = v .«one_hz»;
-  a0 = v .a0;
-  gate = p .gate;
-  operator = os .operator;
-  «operator_envelope» = l .«operator_envelope»;
-  «pitch_envelope» = b .«pitch_envelope»;
-  «normalized_velocity» = b .scene .«normalized_velocity»;
-  note = b .scene .note;
-  ratios = v .ratios;
-  «level_headroom» = v .«level_headroom»;
-  «feedback_state» = os .«feedback_state»;
-  «has_patch» = v .«has_patch»;
-  patch = v .patch;
-  row = v .row;
-  plan = v .plan;
-  dirty = v .dirty;
-}
+after v p b l os =
+    let m : Moving =
+    record {
+      gate = p .gate;
+      operator = os .operator;
+      envelopes = l .«operator_envelope»;
+      pitch = b .«pitch_envelope»;
+      velocity = b .scene .«normalized_velocity»;
+      note = b .scene .note;
+      feedback = os .«feedback_state»;
+    }
+    in
+    rebuilt v m (tuningsOf v) (contentsOf v) (v .dirty)
 
 -- the voice and all four quarters after a sounding block
 pub record Sounded : Type 0 where

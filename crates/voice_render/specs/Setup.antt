@@ -7,29 +7,23 @@ use Rattle.envelope.specs.Set.{pitchSet}
 use Rattle.voice_setup.specs.declared.Setup.{Setup}
 use Rattle.voice_setup.specs.Setup.{setUpTo}
 use Rattle.voice.specs.declared.Voice.{Voice}
+use Rattle.voice.specs.Voice.{Moving, contentsOf, rebuilt}
 
 -- the same voice, clean, with what its patch sets up
 unfoldable pub withSetup : Voice → Envelope → Setup → Voice
-withSetup v pitch s = record {
-  operators = v .operators;
-  «sample_rate» = v .«sample_rate»;
-  «one_hz» = v .«one_hz»;
-  a0 = v .a0;
-  gate = v .gate;
-  operator = v .operator;
-  «operator_envelope» = s .«operator_envelope»;
-  «pitch_envelope» = pitch;
-  «normalized_velocity» = v .«normalized_velocity»;
-  note = v .note;
-  ratios = s .ratios;
-  «level_headroom» = s .«level_headroom»;
-  «feedback_state» = v .«feedback_state»;
-  «has_patch» = v .«has_patch»;
-  patch = v .patch;
-  row = v .row;
-  plan = v .plan;
-  dirty = false;
-}
+withSetup v pitch s =
+    let m : Moving =
+    record {
+      gate = v .gate;
+      operator = v .operator;
+      envelopes = s .«operator_envelope»;
+      pitch = pitch;
+      velocity = v .«normalized_velocity»;
+      note = v .note;
+      feedback = v .«feedback_state»;
+    }
+    in
+    rebuilt v m (record { ratios = s .ratios; headroom = s .«level_headroom» }) (contentsOf v) false
 
 -- a dirty voice with a patch is set up; one without stays as it is
 unfoldable pub setUp : List Float → List Float → Voice → Voice

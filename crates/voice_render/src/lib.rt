@@ -208,11 +208,11 @@ fn leave(v: Voice, p: VoiceParameters, b: Begun, l: Levels, os: Operators) -> Vo
 
 // A sounding block: envelopes, frequencies and amplitudes first, then the plan's calls.
 fn render_sounding(
+    v: Voice,
+    p: VoiceParameters,
     pairs: &[f32; 1024],
     high: &[f32; 256],
     low: &[f32; 256],
-    v: Voice,
-    p: VoiceParameters,
     block: &mut [f32],
 ) -> Voice
     requires { ⌜ T (stateFits v) × (v .dirty ≡ false) × T (blockFits (length (now block))) ⌝ }
@@ -290,7 +290,7 @@ pub fn render_with(
     }
     Rendered {
         number: 0,
-        voice: render_sounding(pairs, high, low, v, p, block),
+        voice: render_sounding(v, p, pairs, high, low, block),
     }
 }
 

@@ -8,10 +8,10 @@ use Rattle.bench.proofs.bench_render_feedback.Statement.{statement}
 use Rattle.bench.proofs.bench_render_feedback.Tie as tie
 
 abbrev Inv-loop : tie.InvT-loop
-Inv-loop blocks size frequency target amount add out₀ lut s₀ k₀ out s k = (length out ≡ length out₀) × (k ≤ blocks)
+Inv-loop blocks size frequency target amount add out₀ pairs k₀ s₀ out k s = (length out ≡ length out₀) × (k ≤ blocks)
 
 abbrev μ-loop : tie.MeasureT-loop
-μ-loop blocks size frequency target amount add out₀ lut s₀ k₀ out s k = blocks - k
+μ-loop blocks size frequency target amount add out₀ pairs k₀ s₀ out k s = blocks - k
 
 sine-pairs-requires : tie.Need-sine-pairs-requires Inv-loop μ-loop
 sine-pairs-requires c κs = search needs

@@ -8,10 +8,10 @@ use Rattle.bench.proofs.external_blocks.Statement.{statement}
 use Rattle.bench.proofs.external_blocks.Tie as tie
 
 abbrev Inv-loop : tie.InvT-loop
-Inv-loop blocks size frequency target add modulation out₀ lut s₀ k₀ out s k = (length out ≡ length out₀) × (k ≤ blocks)
+Inv-loop modulation out₀ blocks size frequency target add pairs s₀ k₀ out s k = (length out ≡ length out₀) × (k ≤ blocks)
 
 abbrev μ-loop : tie.MeasureT-loop
-μ-loop blocks size frequency target add modulation out₀ lut s₀ k₀ out s k = blocks - k
+μ-loop modulation out₀ blocks size frequency target add pairs s₀ k₀ out s k = blocks - k
 
 sine-pairs-requires : tie.Need-sine-pairs-requires Inv-loop μ-loop
 sine-pairs-requires c κs = search needs

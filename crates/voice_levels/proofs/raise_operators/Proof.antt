@@ -14,10 +14,10 @@ use Rattle.voice_levels.proofs.raise_operators.Statement.{statement}
 use Rattle.voice_levels.proofs.raise_operators.Tie as tie
 
 abbrev Inv-loop : tie.InvT-loop
-Inv-loop g operators op ratios level-headroom row operator-envelope l₀ i₀ l i = (i ≤ operators) × (l ≡ raisedTo g op ratios level-headroom row operator-envelope i)
+Inv-loop operator-envelope row g operators op ratios level-headroom l₀ i₀ l i = (i ≤ operators) × (l ≡ raisedTo g op ratios level-headroom row operator-envelope i)
 
 abbrev μ-loop : tie.MeasureT-loop
-μ-loop g operators op ratios level-headroom row operator-envelope l₀ i₀ l i = operators - i
+μ-loop operator-envelope row g operators op ratios level-headroom l₀ i₀ l i = operators - i
 
 loop-holds : tie.Need-loop-holds Inv-loop μ-loop
 unfolding raisedTo decimal ofBits
@@ -53,7 +53,7 @@ array-read-raise-operator-2 c = omega arith
 raise-operator-requires : tie.Need-raise-operator-requires Inv-loop μ-loop
 raise-operator-requires c κs =
     let at = c .before .before .before .before in
-    stage-at-fits (at .before .args .t7) (at .loop .i) (at .before .pre .1)
+    stage-at-fits (at .before .args .t1) (at .loop .i) (at .before .pre .1)
 
 move-to-requires : tie.Need-move-to-requires Inv-loop μ-loop
 move-to-requires c κs = search needs
