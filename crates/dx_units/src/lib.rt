@@ -1,7 +1,7 @@
 // The conversions of DX7 patch data, after dx_units.rs and in its order, and the step for a frequency,
 // after operator.rs. An entry refuses a field above its largest number (6) and a parameter that is a NaN
 // or outside its range (7), and its promise names the answer for every input. The conversions
-// themselves, for callers that have checked their fields, are in `conversions`.
+// themselves, for callers that have checked their fields, are in `dx_units_inner`.
 ghost use mathlib.Core.Path.{_≡_};
 ghost use Rattle.dx_units.specs.Answers.{operatorLevelAnswer, pitchEnvelopeLevelAnswer};
 ghost use Rattle.dx_units.specs.Answers.{operatorEnvelopeIncrementAnswer, pitchEnvelopeIncrementAnswer};

@@ -1,6 +1,6 @@
 // The conversions of dx_units.rs themselves, in its order, for callers that have checked their fields, and the step for a
 // frequency, after operator.rs. Each promises its definition; where a table is looked up, the field is asked to be in
-// bounds. `pow_2_fast` is in `powers`; the entries, which refuse what is out of range, are in `dx_units`.
+// bounds. `pow_2_fast` is in `dx_units_power`; the entries, which refuse what is out of range, are in `dx_units`.
 ghost use mathlib.Core.Path.{_≡_};
 ghost use Prim.Native.Nat.{_≤_, max};
 ghost use Rattle.dx_units_inner.specs.Tables.{lutCoarse, lutCubeRoot};

@@ -1,5 +1,5 @@
-// The judge's entries 50 to 57 (hex, docs/ORACLE.md): the crates `algorithms`, `plan_text` and `opcodes`. An answer
-// stands from place 5 on. A plan is its count and six calls of five bytes each.
+// The judge's entries 50 to 57 (hex, docs/ORACLE.md): the crates `algorithms`, `plan_text` and `algorithms_opcodes`. An
+// answer stands from place 5 on. A plan is its count and six calls of five bytes each.
 use algorithms::Call;
 use algorithms::Plan;
 
