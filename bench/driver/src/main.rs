@@ -1,6 +1,6 @@
 //! Times the proved code and the original Rust on the same work, and holds their results to be equal.
 
-#[path = "../../../oracle/driver/src/identifier.rs"]
+#[path = "../../../oracle/driver/src/identify/identifier.rs"]
 #[allow(dead_code)]
 mod identifier;
 
@@ -243,7 +243,12 @@ fn readings() {
     race(
         "unpacking, every field read: ns a patch",
         64.0,
-        || ours = each().fold(0u8, |all, chunk| all.rotate_left(1) ^ unsafe { bench_read(chunk.as_ptr(), chunk.len()) }),
+        || {
+            ours = each().fold(0u8, |all, chunk| {
+                let read = unsafe { bench_read(chunk.as_ptr(), chunk.len()) };
+                all.rotate_left(1) ^ read
+            })
+        },
         || {
             rust = each().fold(0u8, |all, chunk| {
                 let mut patch = Patch::new();
@@ -265,9 +270,11 @@ fn patches() {
     let by_the_rust = || unpack(black_box(&data), TIMES);
     race("unpacking: ns a patch", TIMES as f64, || ours = unpacking(), || rust = by_the_rust());
     assert_eq!(ours, rust, "the two sides differ");
-    race("packing, beside the Rust's unpacking: ns a patch", TIMES as f64, || ours = packing(), || rust = by_the_rust());
+    let packing_row = "packing, beside the Rust's unpacking: ns a patch";
+    race(packing_row, TIMES as f64, || ours = packing(), || rust = by_the_rust());
     assert_eq!(ours, data[..128].iter().fold(0, |all, b| all ^ b), "the packed bytes differ");
-    race("checking, beside the Rust's unpacking: ns a patch", TIMES as f64, || ours = checking(), || rust = by_the_rust());
+    let checking_row = "checking, beside the Rust's unpacking: ns a patch";
+    race(checking_row, TIMES as f64, || ours = checking(), || rust = by_the_rust());
     assert_eq!(ours, 0, "an unpacked patch is refused");
 }
 

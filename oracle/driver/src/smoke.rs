@@ -1,15 +1,19 @@
 //! A quick look, after each assembly: the table of entries is sound, and the Rust is all there and reachable.
 
-use crate::draw::Generator;
-use crate::script::{Answer, Arguments, split};
-use crate::states::{Registers, put_row, step, with_quarters, with_table};
-use crate::{entries, forms};
+use crate::entry::registers::Registers;
+use crate::entry::rust::{put_row, step, with_quarters, with_table};
+use crate::script::generate::Generator;
+use crate::table;
+use crate::wire::answer::Answer;
+use crate::wire::arguments::Arguments;
+use crate::wire::forms;
+use crate::wire::kind::split;
 use plaits::fm::algorithms::{Algorithms, OPCODES_4_8, OPCODES_6_32};
 use plaits::fm::dx_units::{
     LUT_AMP_MOD_SENSITIVITY, LUT_COARSE, LUT_CUBE_ROOT, LUT_PITCH_MOD_SENSITIVITY, MIN_LFO_FREQUENCY,
     operator_envelope_increment, operator_level, pow_2_fast,
 };
-use plaits::fm::envelope::OperatorEnvelope;
+use plaits::fm::envelope::{OperatorEnvelope, PitchEnvelope};
 use plaits::fm::patch::Patch;
 use plaits::fm::voice::{Voice, VoiceParameters};
 use plaits::oscillator::sine_oscillator::{sine, sine_pm};
@@ -40,7 +44,7 @@ pub fn smoke() -> bool {
 /// What is drawn for an entry is what its kinds say, and the entry reads all of it.
 fn entries_fit() -> bool {
     let mut registers = Registers::new();
-    entries::table().iter().flatten().all(|entry| {
+    table::by_number().iter().flatten().all(|entry| {
         let mut script = Generator::new(7, &[entry]);
         (0..100).all(|_| {
             let call = script.next().1;
@@ -54,7 +58,7 @@ fn entries_fit() -> bool {
 
 /// A patch, an envelope and an LFO are written as they were read.
 fn forms_fit() -> bool {
-    let Registers { mut patch, operator_envelope: OperatorEnvelope(mut envelope), mut lfo, .. } = Registers::new();
+    let Registers { mut patch, envelope: OperatorEnvelope(mut envelope), mut lfo, .. } = Registers::new();
     let mut bytes: Vec<u8> = (1..=250).collect();
     bytes[244..246].copy_from_slice(&[5, 1]); // the LFO's waveform and bool
     let mut arguments = Arguments(&bytes);
@@ -68,7 +72,7 @@ fn forms_fit() -> bool {
     arguments.0.is_empty() && answer.bytes == bytes && patch.op[5].detune == 126
 }
 
-/// Document 01's cases P1 to P11.
+/// Cases P1 to P11 of the crate `cases_proved`.
 fn conversions() -> bool {
     let levels = [0, 14, 15, 20, 99].map(operator_level) == [0, 38, 42, 48, 127];
     let rates = [0, 99].map(operator_envelope_increment) == [2f32.powi(-20), 0.0546875];
@@ -98,7 +102,7 @@ fn generator() -> bool {
     random::state() == 1 && random::get_word() == 1_664_525 + 1_013_904_223 && random::state() == 1_015_568_748
 }
 
-/// Document 01's row, its row with a chain of three, and a built-in row of each table.
+/// A row of four put in, one of six with a chain of three, and a built-in row of each table.
 fn rows() -> bool {
     let mut registers = Registers::new();
     put_row(&mut registers.rows_4, 31, [0x71, 0x14, 0x01, 0x14]);
@@ -128,7 +132,8 @@ fn packed(algorithm: u8) -> [u8; 128] {
 fn lfo_and_envelopes() -> bool {
     let mut registers = Registers::new();
     registers.patch.unpack(&packed(31));
-    let Registers { patch, lfo, operator_envelope, pitch_envelope, .. } = &mut registers;
+    let Registers { patch, lfo, envelope: operator_envelope, .. } = &mut registers;
+    let mut pitch_envelope = PitchEnvelope::new();
     lfo.init(48_000.0);
     lfo.set(&patch.modulations);
     lfo.step(24.0);

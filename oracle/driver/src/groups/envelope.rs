@@ -1,26 +1,26 @@
-//! Envelopes. One state serves operators and pitch: a bool says for which of the two a call is made. A stage above 3 gets 9
-//! in the state and 6 where it is asked for, rates and levels above 99 and a global level above 127 get 6.
+//! Envelopes. One state serves operators and pitch: a bool says for which of the two a call is made. A stage above 3
+//! gets 9 in the state and 6 where it is asked for, rates and levels above 99 and a global level above 127 get 6.
 
-use crate::draw::Draw;
-use crate::entries::{Entry, entry};
-use crate::forms;
-use crate::script::Kind::{Bool, F32, F32s, U8, U8s, U32};
-use crate::states::Registers;
+use crate::entry::draw::Draw;
+use crate::entry::registers::Registers;
+use crate::entry::{Entry, entry};
+use crate::wire::forms;
+use crate::wire::kind::Kind::{Bool, F32, F32s, U8, U8s, U32};
 use plaits::fm::envelope::{Envelope, PitchEnvelope};
 
 const STATE: &str = "u8 number, the envelope";
 
 pub const ENTRIES: &[Entry] = &[
-    entry(0x58, "put_envelope", &[U32, F32s(11)], "the envelope: u32 stage, 11 × f32", |a, r, o| {
-        forms::envelope(a, &mut r.operator_envelope.0);
-        forms::envelope(o, &mut r.operator_envelope.0);
+    entry(0x58, "put_envelope", &[U32, F32s(11)], "the envelope: u32 stage, 11 × f32", |given, registers, answer| {
+        forms::envelope(given, &mut registers.envelope.0);
+        forms::envelope(answer, &mut registers.envelope.0);
     })
     .drawn(states)
     .with_state()
     .weight(1),
-    entry(0x59, "envelope_init", &[F32], "the envelope", |a, r, o| {
-        r.operator_envelope.0.init(a.f32());
-        forms::envelope(o, &mut r.operator_envelope.0);
+    entry(0x59, "envelope_init", &[F32], "the envelope", |given, registers, answer| {
+        registers.envelope.0.init(given.f32());
+        forms::envelope(answer, &mut registers.envelope.0);
     })
     .drawn(|draw| {
         let scale = scale(draw);
@@ -32,53 +32,54 @@ pub const ENTRIES: &[Entry] = &[
     })
     .with_state()
     .weight(1),
-    entry(0x5a, "operator_set", &[U8s(4), U8s(4), U8], STATE, |a, r, o| {
-        let (rate, level, global_level) = (a.u8s(), a.u8s(), a.u8());
+    entry(0x5a, "operator_set", &[U8s(4), U8s(4), U8], STATE, |given, registers, answer| {
+        let (rate, level, global_level) = (given.u8s(), given.u8s(), given.u8());
         let number = match () {
-            _ if r.operator_envelope.0.stage > 3 => 9,
+            _ if registers.envelope.0.stage > 3 => 9,
             _ if !fit(&rate) || !fit(&level) || global_level > 127 => 6,
             _ => 0,
         };
         if number == 0 {
-            r.operator_envelope.set(&rate, &level, global_level);
+            registers.envelope.set(&rate, &level, global_level);
         }
-        o.name("number").u8(number);
-        forms::envelope(o, &mut r.operator_envelope.0);
+        answer.name("number").u8(number);
+        forms::envelope(answer, &mut registers.envelope.0);
     })
     .drawn(|draw| {
         rates_and_levels(draw);
         let global = draw.field_or_past(127);
         draw.u8(global);
     })
-    .every(SETS, |k, draw| {
-        every_set(k, draw);
-        draw.u8([127, 100, 64, 34, 33, 20, 7, 0][(k / 40_000) as usize]);
+    .every(SETS, |nth, draw| {
+        every_set(nth, draw);
+        draw.u8([127, 100, 64, 34, 33, 20, 7, 0][(nth / 40_000) as usize]);
     })
     .with_state()
     .weight(3),
-    entry(0x5b, "pitch_set", &[U8s(4), U8s(4)], STATE, |a, r, o| {
-        let (rate, level) = (a.u8s(), a.u8s());
+    entry(0x5b, "pitch_set", &[U8s(4), U8s(4)], STATE, |given, registers, answer| {
+        let (rate, level) = (given.u8s(), given.u8s());
         let number = match () {
-            _ if r.operator_envelope.0.stage > 3 => 9,
+            _ if registers.envelope.0.stage > 3 => 9,
             _ if !fit(&rate) || !fit(&level) => 6,
             _ => 0,
         };
         if number == 0 {
-            let mut envelope = PitchEnvelope(other(&r.operator_envelope.0));
+            let mut envelope = PitchEnvelope(other(&registers.envelope.0));
             envelope.set(&rate, &level);
-            r.operator_envelope.0 = other(&envelope.0);
+            registers.envelope.0 = other(&envelope.0);
         }
-        o.name("number").u8(number);
-        forms::envelope(o, &mut r.operator_envelope.0);
+        answer.name("number").u8(number);
+        forms::envelope(answer, &mut registers.envelope.0);
     })
     .drawn(rates_and_levels)
     .every(SETS, every_set)
     .with_state()
     .weight(3),
-    entry(0x5c, "envelope_render", &[Bool, Bool, F32, F32, F32], RENDER, |a, r, o| {
-        let (reshape, gate, rate, ad_scale, release_scale) = (a.bool(), a.bool(), a.f32(), a.f32(), a.f32());
-        let number = stage(r);
-        let envelope = &mut r.operator_envelope.0;
+    entry(0x5c, "envelope_render", &[Bool, Bool, F32, F32, F32], RENDER, |given, registers, answer| {
+        let (reshape, gate, rate, ad_scale, release_scale) =
+            (given.bool(), given.bool(), given.f32(), given.f32(), given.f32());
+        let number = stage(registers);
+        let envelope = &mut registers.envelope.0;
         let mut value = 0.0;
         if number == 0 && reshape {
             value = envelope.render(gate, rate, ad_scale, release_scale);
@@ -87,43 +88,43 @@ pub const ENTRIES: &[Entry] = &[
             value = pitch.render(gate, rate, ad_scale, release_scale);
             *envelope = other(&pitch);
         }
-        o.name("number").u8(number);
-        o.name("value").f32(value);
-        forms::envelope(o, envelope);
+        answer.name("number").u8(number);
+        answer.name("value").f32(value);
+        forms::envelope(answer, envelope);
     })
     .drawn(renders)
     .every(1 << 19, |_, draw| renders(draw))
     .with_state()
     .weight(24),
-    entry(0x5d, "render_at_sample", &[Bool, F32, F32], "u8 number, f32", |a, r, o| {
-        let (reshape, t, gate_duration) = (a.bool(), a.f32(), a.f32());
-        let number = stage(r);
-        let envelope = &r.operator_envelope.0;
+    entry(0x5d, "render_at_sample", &[Bool, F32, F32], "u8 number, f32", |given, registers, answer| {
+        let (reshape, t, gate_duration) = (given.bool(), given.f32(), given.f32());
+        let number = stage(registers);
+        let envelope = &registers.envelope.0;
         let value = match number {
             0 if reshape => envelope.render_at_sample(t, gate_duration),
             0 => other::<true, false>(envelope).render_at_sample(t, gate_duration),
             _ => 0.0,
         };
-        o.name("number").u8(number);
-        o.name("value").f32(value);
+        answer.name("number").u8(number);
+        answer.name("value").f32(value);
     })
     .drawn(scrubs)
     .every(1 << 19, every_scrub)
     .with_state(),
-    entry(0x5e, "envelope_value", &[Bool, U32, F32, F32], "u8 number, f32", |a, r, o| {
-        let (reshape, asked, phase, start_level) = (a.bool(), a.usize(), a.f32(), a.f32());
-        let number = match stage(r) {
+    entry(0x5e, "envelope_value", &[Bool, U32, F32, F32], "u8 number, f32", |given, registers, answer| {
+        let (reshape, asked, phase, start_level) = (given.bool(), given.usize(), given.f32(), given.f32());
+        let number = match stage(registers) {
             0 if asked > 3 => 6,
             number => number,
         };
-        let envelope = &r.operator_envelope.0;
+        let envelope = &registers.envelope.0;
         let value = match number {
             0 if reshape => envelope.value(asked, phase, start_level),
             0 => other::<true, false>(envelope).value(asked, phase, start_level),
             _ => 0.0,
         };
-        o.name("number").u8(number);
-        o.name("value").f32(value);
+        answer.name("number").u8(number);
+        answer.name("value").f32(value);
     })
     .drawn(|draw| {
         let reshape = draw.below(2) as u8;
@@ -146,7 +147,7 @@ fn other<const A: bool, const B: bool>(x: &Envelope<4, A>) -> Envelope<4, B> {
 }
 
 fn stage(registers: &Registers) -> u8 {
-    if registers.operator_envelope.0.stage > 3 { 9 } else { 0 }
+    if registers.envelope.0.stage > 3 { 9 } else { 0 }
 }
 
 fn fit(numbers: &[u8; 4]) -> bool {
@@ -212,10 +213,10 @@ fn rates_and_levels(draw: &mut Draw) {
 /// All rates times all levels in each stage, with eight sets of numbers in the other stages.
 const SETS: u64 = 8 * 40_000;
 
-fn every_set(k: u64, draw: &mut Draw) {
-    let (rate, level, stage) = ((k % 100) as u8, (k / 100 % 100) as u8, (k / 10_000 % 4) as usize);
+fn every_set(nth: u64, draw: &mut Draw) {
+    let (rate, level, stage) = ((nth % 100) as u8, (nth / 100 % 100) as u8, (nth / 10_000 % 4) as usize);
     let mut rates = [99, 50, 20, 75];
-    let before = [0, level, 99, 50, 30, 25, 99, 10][(k / 40_000) as usize];
+    let before = [0, level, 99, 50, 30, 25, 99, 10][(nth / 40_000) as usize];
     let mut levels = [99, before, 70, 0];
     (rates[stage], levels[stage], levels[(stage + 3) % 4]) = (rate, level, before);
     rates.into_iter().chain(levels).for_each(|x| draw.u8(x));
@@ -252,9 +253,9 @@ fn scrubs(draw: &mut Draw) {
 }
 
 /// Times over the whole gate and past it, for gates of several lengths.
-fn every_scrub(k: u64, draw: &mut Draw) {
-    let gate = [1.0, 30.0, 700.0, 3000.0, 2e4, 1e5, 1e6, 3e7][(k >> 16) as usize];
-    draw.u8((k % 2) as u8);
-    draw.f32((k >> 1 & 0x7fff) as f32 / 16_384.0 * gate);
+fn every_scrub(nth: u64, draw: &mut Draw) {
+    let gate = [1.0, 30.0, 700.0, 3000.0, 2e4, 1e5, 1e6, 3e7][(nth >> 16) as usize];
+    draw.u8((nth % 2) as u8);
+    draw.f32((nth >> 1 & 0x7fff) as f32 / 16_384.0 * gate);
     draw.f32(gate);
 }

@@ -1,45 +1,9 @@
-//! The states that live between calls, and the few helpers by which entries reach into the Rust.
+//! The few helpers by which entries reach into the Rust.
 
-use crate::voice::State;
 use plaits::fm::algorithms::{Algorithms, RenderCall};
-use plaits::fm::envelope::{OperatorEnvelope, PitchEnvelope};
-use plaits::fm::lfo::Lfo;
 use plaits::fm::operator::{Operator, render_operators};
-use plaits::fm::patch::Patch;
 use plaits::fm::voice::Voice;
-use plaits::utils::random;
 use std::cell::RefCell;
-
-/// The registers, one of each kind. The generator's number is the Rust's own: `random::seed` sets it, `random::state`
-/// reads it. The tables and the Rust's voices are for work within a call.
-pub struct Registers {
-    pub patch: Patch,
-    pub operator_envelope: OperatorEnvelope,
-    pub pitch_envelope: PitchEnvelope,
-    pub lfo: Lfo,
-    pub rows_4: Algorithms<4, 32>,
-    pub rows_6: Algorithms<6, 32>,
-    pub voice_4: Voice<'static, 4, 32>,
-    pub voice_6: Voice<'static, 6, 32>,
-    pub voice: State,
-}
-
-impl Registers {
-    pub fn new() -> Self {
-        random::seed(0x21);
-        Registers {
-            patch: Patch::new(),
-            operator_envelope: OperatorEnvelope::new(),
-            pitch_envelope: PitchEnvelope::new(),
-            lfo: Lfo::new(),
-            rows_4: Algorithms::new(),
-            rows_6: Algorithms::new(),
-            voice_4: Voice::new(),
-            voice_6: Voice::new(),
-            voice: State::new(),
-        }
-    }
-}
 
 /// Puts a row into a table and compiles it, as if it had always stood there.
 pub fn put_row<const N: usize, const M: usize>(table: &mut Algorithms<N, M>, row: usize, opcodes: [u8; N]) {

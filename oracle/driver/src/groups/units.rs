@@ -1,11 +1,11 @@
 //! Conversions, tables, sine, ratio and draws. Fields above their largest number get 6 and parameters outside their
-//! range 7, in document 01's order; a refused value is written as 0.
+//! range 7, in the order of the rules (docs/RULES.md); a refused value is written as 0.
 
-use crate::draw::{Draw, quiet};
-use crate::entries::{Entry, entry};
-use crate::script::Answer;
-use crate::script::Kind::{F32, I32, U8, U8s, U32};
-use crate::states::step;
+use crate::entry::draw::{Draw, quiet};
+use crate::entry::rust::step;
+use crate::entry::{Entry, entry};
+use crate::wire::answer::Answer;
+use crate::wire::kind::Kind::{F32, I32, U8, U8s, U32};
 use plaits::fm::dx_units::*;
 use plaits::fm::patch::{KeyboardScaling, Operator};
 use plaits::oscillator::sine_oscillator::{sine, sine_pm};
@@ -16,138 +16,156 @@ use plaits::utils::{interpolate, interpolate_wrap, random};
 const FLOAT: &str = "u8 number, f32";
 
 pub const ENTRIES: &[Entry] = &[
-    entry(0x30, "pow_2_fast", &[F32, I32], "f32", |a, _, o| o.f32(pow_2_fast(a.f32(), a.i32())))
+    entry(0x30, "pow_2_fast", &[F32, I32], "f32", |given, _, answer| answer.f32(pow_2_fast(given.f32(), given.i32())))
         .drawn(powers)
         .every(SPREAD * ORDERS, every_power),
-    entry(0x31, "operator_level", &[U8], "u8 number, u8", |a, _, o| {
-        let level = a.u8();
+    entry(0x31, "operator_level", &[U8], "u8 number, u8", |given, _, answer| {
+        let level = given.u8();
         let number = field(level, 99);
-        o.name("number").u8(number);
-        o.name("level").u8(if number == 0 { operator_level(level) } else { 0 });
+        answer.name("number").u8(number);
+        answer.name("level").u8(if number == 0 { operator_level(level) } else { 0 });
     })
     .drawn(|draw| one(draw, 99))
     .every(256, every_u8),
-    entry(0x32, "pitch_envelope_level", &[U8], FLOAT, |a, _, o| convert(o, a.u8(), 99, pitch_envelope_level))
-        .drawn(|draw| one(draw, 99))
-        .every(256, every_u8),
-    entry(0x33, "operator_envelope_increment", &[U8], FLOAT, |a, _, o| {
-        convert(o, a.u8(), 99, operator_envelope_increment)
+    entry(0x32, "pitch_envelope_level", &[U8], FLOAT, |given, _, answer| {
+        convert(answer, given.u8(), 99, pitch_envelope_level)
     })
     .drawn(|draw| one(draw, 99))
     .every(256, every_u8),
-    entry(0x34, "pitch_envelope_increment", &[U8], FLOAT, |a, _, o| convert(o, a.u8(), 99, pitch_envelope_increment))
+    entry(0x33, "operator_envelope_increment", &[U8], FLOAT, |given, _, answer| {
+        convert(answer, given.u8(), 99, operator_envelope_increment)
+    })
+    .drawn(|draw| one(draw, 99))
+    .every(256, every_u8),
+    entry(0x34, "pitch_envelope_increment", &[U8], FLOAT, |given, _, answer| {
+        convert(answer, given.u8(), 99, pitch_envelope_increment)
+    })
+    .drawn(|draw| one(draw, 99))
+    .every(256, every_u8),
+    entry(0x35, "lfo_frequency", &[U8], FLOAT, |given, _, answer| convert(answer, given.u8(), 99, lfo_frequency))
         .drawn(|draw| one(draw, 99))
         .every(256, every_u8),
-    entry(0x35, "lfo_frequency", &[U8], FLOAT, |a, _, o| convert(o, a.u8(), 99, lfo_frequency))
-        .drawn(|draw| one(draw, 99))
-        .every(256, every_u8),
-    entry(0x36, "lfo_delay", &[U8], "u8 number, f32, f32", |a, _, o| {
-        let delay = a.u8();
+    entry(0x36, "lfo_delay", &[U8], "u8 number, f32, f32", |given, _, answer| {
+        let delay = given.u8();
         let number = field(delay, 99);
         let mut increments = [0.0; 2];
         if number == 0 {
             lfo_delay(delay, &mut increments);
         }
-        o.name("number").u8(number);
-        o.name("increments").f32s(&increments);
+        answer.name("number").u8(number);
+        answer.name("increments").f32s(&increments);
     })
     .drawn(|draw| one(draw, 99))
     .every(256, every_u8),
-    entry(0x37, "normalize_velocity", &[F32], FLOAT, |a, _, o| {
-        let velocity = a.f32();
-        answer(o, range(velocity, 1.0), || normalize_velocity(velocity));
+    entry(0x37, "normalize_velocity", &[F32], FLOAT, |given, _, answer| {
+        let velocity = given.f32();
+        value_or_number(answer, range(velocity, 1.0), || normalize_velocity(velocity));
     })
     .drawn(|draw| {
         let velocity = parameter(draw, 1.0);
         draw.f32(velocity);
     })
-    .every(1 << 20, |k, draw| draw.f32(k as f32 / ((1 << 20) - 1) as f32)),
-    entry(0x38, "rate_scaling", &[F32, U8], FLOAT, |a, _, o| {
-        let (note, scaling) = (a.f32(), a.u8());
-        answer(o, either(field(scaling, 7), range(note, 127.0)), || rate_scaling(note, scaling));
+    .every(1 << 20, |nth, draw| draw.f32(nth as f32 / ((1 << 20) - 1) as f32)),
+    entry(0x38, "rate_scaling", &[F32, U8], FLOAT, |given, _, answer| {
+        let (note, scaling) = (given.f32(), given.u8());
+        value_or_number(answer, either(field(scaling, 7), range(note, 127.0)), || rate_scaling(note, scaling));
     })
     .drawn(|draw| {
         let note = parameter(draw, 127.0);
         draw.f32(note);
         one(draw, 7);
     })
-    .every(256 * 513, |k, draw| {
-        draw.f32((k / 256) as f32 * 0.25 - 0.25);
-        draw.u8(k as u8);
+    .every(256 * 513, |nth, draw| {
+        draw.f32((nth / 256) as f32 * 0.25 - 0.25);
+        draw.u8(nth as u8);
     }),
-    entry(0x39, "amp_mod_sensitivity", &[U8], FLOAT, |a, _, o| convert(o, a.u8(), 3, amp_mod_sensitivity))
-        .drawn(|draw| one(draw, 3))
-        .every(256, every_u8),
-    entry(0x3a, "pitch_mod_sensitivity", &[U8], FLOAT, |a, _, o| convert(o, a.u8(), 7, pitch_mod_sensitivity))
-        .drawn(|draw| one(draw, 7))
-        .every(256, every_u8),
-    entry(0x3b, "keyboard_scaling", &[F32, U8s(5)], FLOAT, |a, _, o| {
-        let (note, [left_depth, right_depth, left_curve, right_curve, break_point]) = (a.f32(), a.u8s());
+    entry(0x39, "amp_mod_sensitivity", &[U8], FLOAT, |given, _, answer| {
+        convert(answer, given.u8(), 3, amp_mod_sensitivity)
+    })
+    .drawn(|draw| one(draw, 3))
+    .every(256, every_u8),
+    entry(0x3a, "pitch_mod_sensitivity", &[U8], FLOAT, |given, _, answer| {
+        convert(answer, given.u8(), 7, pitch_mod_sensitivity)
+    })
+    .drawn(|draw| one(draw, 7))
+    .every(256, every_u8),
+    entry(0x3b, "keyboard_scaling", &[F32, U8s(5)], FLOAT, |given, _, answer| {
+        let (note, [left_depth, right_depth, left_curve, right_curve, break_point]) = (given.f32(), given.u8s());
         let depths = either(field(left_depth, 99), field(right_depth, 99));
         let curves = either(field(left_curve, 3), field(right_curve, 3));
         let number = either(either(depths, curves), either(field(break_point, 99), range(note, 127.0)));
         let scaling = KeyboardScaling { left_depth, right_depth, left_curve, right_curve, break_point };
-        answer(o, number, || keyboard_scaling(note, &scaling));
+        value_or_number(answer, number, || keyboard_scaling(note, &scaling));
     })
     .drawn(scalings)
     .every(128 * 100 * 4 * 10, every_scaling),
-    entry(0x3c, "frequency_ratio", &[U8s(4)], "u8 number, u8 kind (0 to the note, 1 to 1 Hz), f32", |a, _, o| {
-        let [mode, coarse, fine, detune] = a.u8s();
-        let number = either(either(field(mode, 1), field(coarse, 31)), either(field(fine, 99), field(detune, 14)));
-        let kind = if number == 0 { mode } else { 0 };
-        o.name("number").u8(number);
-        o.name("kind").u8(kind);
-        let operator = Operator { mode, coarse, fine, detune, ..Operator::default() };
-        o.name("ratio").f32(if number == 0 { frequency_ratio(&operator) } else { 0.0 });
-    })
+    entry(
+        0x3c,
+        "frequency_ratio",
+        &[U8s(4)],
+        "u8 number, u8 kind (0 to the note, 1 to 1 Hz), f32",
+        |given, _, answer| {
+            let [mode, coarse, fine, detune] = given.u8s();
+            let number = either(either(field(mode, 1), field(coarse, 31)), either(field(fine, 99), field(detune, 14)));
+            let kind = if number == 0 { mode } else { 0 };
+            answer.name("number").u8(number);
+            answer.name("kind").u8(kind);
+            let operator = Operator { mode, coarse, fine, detune, ..Operator::default() };
+            answer.name("ratio").f32(if number == 0 { frequency_ratio(&operator) } else { 0.0 });
+        },
+    )
     .drawn(|draw| [1, 31, 99, 14].into_iter().for_each(|most| one(draw, most)))
-    .every(3 * 33 * 101 * 16, |k, draw| {
-        [k / (33 * 101 * 16), k / (101 * 16) % 33, k / 16 % 101, k % 16].into_iter().for_each(|x| draw.u8(x as u8));
+    .every(3 * 33 * 101 * 16, |nth, draw| {
+        [nth / (33 * 101 * 16), nth / (101 * 16) % 33, nth / 16 % 101, nth % 16]
+            .into_iter()
+            .for_each(|x| draw.u8(x as u8));
     }),
-    entry(0x3d, "frequency_step", &[F32], "u32", |a, _, o| o.u32(step(a.f32())))
+    entry(0x3d, "frequency_step", &[F32], "u32", |given, _, answer| answer.u32(step(given.f32())))
         .drawn(|draw| {
             let frequency = if draw.one_in(4) { draw.unit() } else { draw.quiet_f32() };
             draw.f32(frequency);
         })
-        .every(SPREAD, |k, draw| draw.f32(quiet(pattern(k, SPREAD)))),
-    entry(0x3e, "sine", &[F32], "f32", |a, _, o| o.f32(sine(a.f32())))
+        .every(SPREAD, |nth, draw| draw.f32(quiet(pattern(nth, SPREAD)))),
+    entry(0x3e, "sine", &[F32], "f32", |given, _, answer| answer.f32(sine(given.f32())))
         .drawn(|draw| {
             let phase = index(draw);
             draw.f32(phase);
         })
-        .every(1 << 20, |k, draw| draw.f32(if k % 2 == 0 { pattern(k, 1 << 20) } else { k as f32 / (1 << 18) as f32 })),
-    entry(0x3f, "sine_pm", &[U32, F32], "f32", |a, _, o| o.f32(sine_pm(a.u32(), a.f32())))
+        .every(1 << 20, |nth, draw| {
+            draw.f32(if nth % 2 == 0 { pattern(nth, 1 << 20) } else { nth as f32 / (1 << 18) as f32 })
+        }),
+    entry(0x3f, "sine_pm", &[U32, F32], "f32", |given, _, answer| answer.f32(sine_pm(given.u32(), given.f32())))
         .drawn(modulations)
         .every(1 << 20, every_modulation),
-    entry(0x40, "semitones_to_ratio_safe", &[F32], "f32, 1 for NaN or outside −240 to 240", |a, _, o| {
-        let semitones = a.f32();
+    entry(0x40, "semitones_to_ratio_safe", &[F32], "f32, 1 for NaN or outside −240 to 240", |given, _, answer| {
+        let semitones = given.f32();
         let inside = (-240.0..=240.0).contains(&semitones);
-        o.f32(if inside { semitones_to_ratio_safe(semitones) } else { 1.0 });
+        answer.f32(if inside { semitones_to_ratio_safe(semitones) } else { 1.0 });
     })
     .drawn(semitones)
-    .every(1 << 20, |k, draw| draw.f32((k as f64 / ((1 << 20) - 1) as f64 * 482.0 - 241.0) as f32)),
-    entry(0x41, "get_float", &[U32], "u32 the generator's number, f32", |a, _, o| {
-        let (value, number) = drawn(a.u32(), random::get_float);
-        o.name("number").u32(number);
-        o.name("draw").f32(value);
+    .every(1 << 20, |nth, draw| draw.f32((nth as f64 / ((1 << 20) - 1) as f64 * 482.0 - 241.0) as f32)),
+    entry(0x41, "get_float", &[U32], "u32 the generator's number, f32", |given, _, answer| {
+        let (value, number) = drawn(given.u32(), random::get_float);
+        answer.name("number").u32(number);
+        answer.name("draw").f32(value);
     })
-    .every(8 << 18, |k, draw| {
-        let start = [0, 1, 0x21, 0x7fff_ffff, 0x8000_0000, u32::MAX, 0x1234_5678, 1_013_904_223][(k >> 18) as usize];
-        draw.u32(later(start, k & ((1 << 18) - 1)));
+    .every(8 << 18, |nth, draw| {
+        let start = [0, 1, 0x21, 0x7fff_ffff, 0x8000_0000, u32::MAX, 0x1234_5678, 1_013_904_223][(nth >> 18) as usize];
+        draw.u32(later(start, nth & ((1 << 18) - 1)));
     }),
-    entry(0x42, "interpolate", &[U8, F32, F32], LOOKUP, |a, _, o| {
-        let (table, index, size) = (table(a.u8()), a.f32(), a.f32());
-        o.f32(held(table, index, size).unwrap_or_else(|| interpolate(table, index, size)));
+    entry(0x42, "interpolate", &[U8, F32, F32], LOOKUP, |given, _, answer| {
+        let (table, index, size) = (table(given.u8()), given.f32(), given.f32());
+        answer.f32(held(table, index, size).unwrap_or_else(|| interpolate(table, index, size)));
     })
     .drawn(lookups),
-    entry(0x43, "interpolate_wrap", &[U8, F32, F32], "f32; as 42", |a, _, o| {
-        let (table, index, size) = (table(a.u8()), a.f32(), a.f32());
+    entry(0x43, "interpolate_wrap", &[U8, F32, F32], "f32; as 42", |given, _, answer| {
+        let (table, index, size) = (table(given.u8()), given.f32(), given.f32());
         let part = index - index as i32 as f32;
-        o.f32(held(table, part, size).unwrap_or_else(|| interpolate_wrap(table, index, size)));
+        answer.f32(held(table, part, size).unwrap_or_else(|| interpolate_wrap(table, index, size)));
     })
     .drawn(lookups),
-    entry(0x44, "table_entry", &[U8, U32], TABLES, |a, _, o| {
-        let (name, place) = (a.u8(), a.usize());
+    entry(0x44, "table_entry", &[U8, U32], TABLES, |given, _, answer| {
+        let (name, place) = (given.u8(), given.usize());
         let table: &[f32] = match name {
             0 => &LUT_SINE,
             1 => &LUT_PITCH_RATIO_HIGH,
@@ -158,7 +176,7 @@ pub const ENTRIES: &[Entry] = &[
             6 => &LUT_CUBE_ROOT,
             _ => &[],
         };
-        o.f32(table.get(place).copied().unwrap_or(0.0));
+        answer.f32(table.get(place).copied().unwrap_or(0.0));
     })
     .drawn(|draw| {
         let table = draw.below(9) as u8;
@@ -166,17 +184,17 @@ pub const ENTRIES: &[Entry] = &[
         draw.u8(table);
         draw.u32(place);
     })
-    .every(8 * 700, |k, draw| {
-        draw.u8((k / 700) as u8);
-        draw.u32((k % 700) as u32);
+    .every(8 * 700, |nth, draw| {
+        draw.u8((nth / 700) as u8);
+        draw.u32((nth % 700) as u32);
     }),
-    entry(0x45, "get_word", &[U32], "u32", |a, _, o| o.u32(drawn(a.u32(), random::get_word).0)),
+    entry(0x45, "get_word", &[U32], "u32", |given, _, answer| answer.u32(drawn(given.u32(), random::get_word).0)),
 ];
 
 const LOOKUP: &str = "f32; table 0 sine, 1 high ratios, else low; at its last entry and past it that entry";
 
-const TABLES: &str =
-    "f32, 0 past the end; 0 sine, 1 high ratios, 2 low ratios, 3 amplitude and 4 pitch sensitivities, 5 coarse, 6 cube roots";
+const TABLES: &str = "f32, 0 past the end; 0 sine, 1 high ratios, 2 low ratios, \
+    3 amplitude and 4 pitch sensitivities, 5 coarse, 6 cube roots";
 
 /// The orders from −1 to 5, and how many float patterns are tried.
 const ORDERS: u64 = 7;
@@ -193,17 +211,17 @@ fn range(x: f32, most: f32) -> u8 {
 }
 
 /// The lower of two numbers that apply.
-fn either(a: u8, b: u8) -> u8 {
-    if a == 0 || b != 0 && b < a { b } else { a }
+fn either(one: u8, other: u8) -> u8 {
+    if one == 0 || other != 0 && other < one { other } else { one }
 }
 
-fn answer(o: &mut Answer, number: u8, value: impl FnOnce() -> f32) {
-    o.name("number").u8(number);
-    o.name("value").f32(if number == 0 { value() } else { 0.0 });
+fn value_or_number(answer: &mut Answer, number: u8, value: impl FnOnce() -> f32) {
+    answer.name("number").u8(number);
+    answer.name("value").f32(if number == 0 { value() } else { 0.0 });
 }
 
-fn convert(o: &mut Answer, x: u8, most: u8, value: fn(u8) -> f32) {
-    answer(o, field(x, most), || value(x));
+fn convert(answer: &mut Answer, x: u8, most: u8, value: fn(u8) -> f32) {
+    value_or_number(answer, field(x, most), || value(x));
 }
 
 /// The table that a lookup names.
@@ -250,14 +268,14 @@ fn one(draw: &mut Draw, most: u8) {
     draw.u8(x);
 }
 
-fn every_u8(k: u64, draw: &mut Draw) {
-    draw.u8(k as u8);
+fn every_u8(nth: u64, draw: &mut Draw) {
+    draw.u8(nth as u8);
 }
 
 /// The float pattern with this number among `n` that are spread evenly over all.
-fn pattern(k: u64, n: u64) -> f32 {
-    let (from, to) = ((k << 32) / n, ((k + 1) << 32) / n);
-    f32::from_bits((from + k.wrapping_mul(0x9e37_79b9) % (to - from)) as u32)
+fn pattern(nth: u64, n: u64) -> f32 {
+    let (from, to) = ((nth << 32) / n, ((nth + 1) << 32) / n);
+    f32::from_bits((from + nth.wrapping_mul(0x9e37_79b9) % (to - from)) as u32)
 }
 
 /// A number from 0 to `most`, its ends and their neighbours often, now and then any float.
@@ -287,9 +305,9 @@ fn powers(draw: &mut Draw) {
     draw.u32(order);
 }
 
-fn every_power(k: u64, draw: &mut Draw) {
-    draw.f32(pattern(k / ORDERS, SPREAD));
-    draw.u32(((k % ORDERS) as u32).wrapping_sub(1));
+fn every_power(nth: u64, draw: &mut Draw) {
+    draw.f32(pattern(nth / ORDERS, SPREAD));
+    draw.u32(((nth % ORDERS) as u32).wrapping_sub(1));
 }
 
 fn scalings(draw: &mut Draw) {
@@ -304,8 +322,8 @@ fn scalings(draw: &mut Draw) {
 }
 
 /// All notes, break points and curves, each with ten depths; the other side's numbers differ.
-fn every_scaling(k: u64, draw: &mut Draw) {
-    let (note, break_point, curve, depth) = (k / 4_000, k / 40 % 100, k / 10 % 4, k * 7 % 100);
+fn every_scaling(nth: u64, draw: &mut Draw) {
+    let (note, break_point, curve, depth) = (nth / 4_000, nth / 40 % 100, nth / 10 % 4, nth * 7 % 100);
     draw.f32(note as f32);
     [depth, 99 - depth, curve, 3 - curve, break_point].into_iter().for_each(|x| draw.u8(x as u8));
 }
@@ -340,9 +358,9 @@ fn modulations(draw: &mut Draw) {
 }
 
 /// Phases spread over the turn; every other modulation any float, the rest from just below −32 to just above 32.
-fn every_modulation(k: u64, draw: &mut Draw) {
-    draw.u32((k << 12) as u32 ^ (k as u32).wrapping_mul(0x9e37_79b9) >> 20);
-    draw.f32(if k % 2 == 0 { pattern(k, 1 << 20) } else { (k % 65_537) as f32 / 1000.0 - 32.7 });
+fn every_modulation(nth: u64, draw: &mut Draw) {
+    draw.u32((nth << 12) as u32 ^ (nth as u32).wrapping_mul(0x9e37_79b9) >> 20);
+    draw.f32(if nth % 2 == 0 { pattern(nth, 1 << 20) } else { (nth % 65_537) as f32 / 1000.0 - 32.7 });
 }
 
 fn semitones(draw: &mut Draw) {

@@ -1,4 +1,5 @@
-//! A patch's identifier, by the original Rust: three notes, one hash. The judge compares it with ours, and the benchmark times both.
+//! A patch's identifier, by the original Rust: three notes, one hash. The judge compares it with ours, and the
+//! benchmark, which has this file too, times both; so it uses no other file of the driver.
 
 use plaits::fm::algorithms::Algorithms;
 use plaits::fm::lfo::Lfo;
@@ -39,7 +40,8 @@ fn render(voice: &mut Voice<6, 32>, parameters: &VoiceParameters, quarters: &mut
     voice.render(parameters, &quarters.each_mut().map(|quarter| RefCell::new(quarter.as_mut_slice())));
 }
 
-/// One note from the beginning, and the hash after it. The scratch is kept from block to block, as the Rust's callers keep it.
+/// One note from the beginning, and the hash after it. The scratch is kept from block to block, as the Rust's callers
+/// keep it.
 fn note(table: &Table, patch: &Patch, note: f32, before: u64, hidden: Hidden) -> u64 {
     if hidden == Hidden::Set {
         random::seed(0x21);
@@ -53,17 +55,18 @@ fn note(table: &Table, patch: &Patch, note: f32, before: u64, hidden: Hidden) ->
     voice.set_patch(Some(patch.clone()));
     let (sustain, gate, pitch_mod, amp_mod) = (false, false, 0.0, 0.0);
     let (velocity, brightness, envelope_control) = (0.8, 0.5, 0.5);
-    let mut p = VoiceParameters { sustain, gate, note, velocity, brightness, envelope_control, pitch_mod, amp_mod };
+    let mut played =
+        VoiceParameters { sustain, gate, note, velocity, brightness, envelope_control, pitch_mod, amp_mod };
     let mut quarters = [[0.0; 64]; 4];
-    render(&mut voice, &p, &mut quarters);
+    render(&mut voice, &played, &mut quarters);
     let mut sum = before;
     for block in 0..192 {
         quarters[0] = [0.0; 64];
         lfo.step(64.0);
-        p.gate = block < 128;
-        p.pitch_mod = lfo.pitch_mod();
-        p.amp_mod = lfo.amp_mod();
-        render(&mut voice, &p, &mut quarters);
+        played.gate = block < 128;
+        played.pitch_mod = lfo.pitch_mod();
+        played.amp_mod = lfo.amp_mod();
+        render(&mut voice, &played, &mut quarters);
         sum = hash(sum, &quarters[0]);
     }
     sum

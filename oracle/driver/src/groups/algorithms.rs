@@ -1,41 +1,52 @@
-//! Rows and plans: the Rust compiles the row put in, and its calls are read one by one. Numbers 2, 3 and 4 and the printer
-//! are not in the Rust; they are told here from document 01.
+//! Rows and plans: the Rust compiles the row put in, and its calls are read one by one. Numbers 2, 3 and 4 and the
+//! printer are not in the Rust; they are told here from the rules (docs/RULES.md).
 
-use crate::draw::Draw;
-use crate::entries::{Entry, entry};
-use crate::script::Answer;
-use crate::script::Kind::{Bytes, U8, U8s, U32};
-use crate::states::{Registers, put_row};
+use crate::entry::draw::Draw;
+use crate::entry::registers::Registers;
+use crate::entry::rust::put_row;
+use crate::entry::{Entry, entry};
+use crate::wire::answer::Answer;
+use crate::wire::kind::Kind::{Bytes, U8, U8s, U32};
 use plaits::fm::algorithms::{Algorithms, OPCODES_4_8, OPCODES_6_32};
 
 const PLAN: &str = "u8 number, u8 operator named, plan: u8 count, 6 × (first, length, input, output, add)";
 
 pub const ENTRIES: &[Entry] = &[
-    entry(0x50, "compile", &[U8, Bytes, U32], "u8 number, u8 operator named, 6 × u8 row, plan", |a, r, o| {
-        let (operators, table, row) = (a.u8() as usize, a.bytes(), a.usize());
-        let fits = tabled(operators, &table, row);
-        let compiled = if fits { planned(r, operators, &table[row * operators..][..operators]) } else { refused(2, 0) };
-        let mut bytes = [0; 6];
-        if compiled.number == 0 {
-            bytes[..operators].copy_from_slice(&table[row * operators..][..operators]);
-        }
-        o.name("number").u8(compiled.number);
-        o.name("operator").u8(compiled.at);
-        o.name("row").u8s(&bytes);
-        compiled.write(o);
-    })
+    entry(
+        0x50,
+        "compile",
+        &[U8, Bytes, U32],
+        "u8 number, u8 operator named, 6 × u8 row, plan",
+        |given, registers, answer| {
+            let (operators, table, row) = (given.u8() as usize, given.bytes(), given.usize());
+            let fits = tabled(operators, &table, row);
+            let compiled = if fits {
+                planned(registers, operators, &table[row * operators..][..operators])
+            } else {
+                refused(2, 0)
+            };
+            let mut bytes = [0; 6];
+            if compiled.number == 0 {
+                bytes[..operators].copy_from_slice(&table[row * operators..][..operators]);
+            }
+            answer.name("number").u8(compiled.number);
+            answer.name("operator").u8(compiled.at);
+            answer.name("row").u8s(&bytes);
+            compiled.write(answer);
+        },
+    )
     .drawn(tables)
-    .every(8 + 32, |k, draw| {
-        draw.u8(if k < 8 { 4 } else { 6 });
-        draw.bytes(&if k < 8 { OPCODES_4_8.concat() } else { OPCODES_6_32.concat() });
-        draw.u32(if k < 8 { k } else { k - 8 } as u32);
+    .every(8 + 32, |nth, draw| {
+        draw.u8(if nth < 8 { 4 } else { 6 });
+        draw.bytes(&if nth < 8 { OPCODES_4_8.concat() } else { OPCODES_6_32.concat() });
+        draw.u32(if nth < 8 { nth } else { nth - 8 } as u32);
     }),
-    entry(0x51, "compile_row", &[U8, U8s(6)], PLAN, |a, r, o| {
-        let (operators, row) = (a.u8() as usize, a.u8s::<6>());
-        let planned = if counted(operators) { planned(r, operators, &row[..operators]) } else { refused(2, 0) };
-        o.name("number").u8(planned.number);
-        o.name("operator").u8(planned.at);
-        planned.write(o);
+    entry(0x51, "compile_row", &[U8, U8s(6)], PLAN, |given, registers, answer| {
+        let (operators, row) = (given.u8() as usize, given.u8s::<6>());
+        let planned = if counted(operators) { planned(registers, operators, &row[..operators]) } else { refused(2, 0) };
+        answer.name("number").u8(planned.number);
+        answer.name("operator").u8(planned.at);
+        planned.write(answer);
     })
     .drawn(|draw| {
         let operators = operators(draw);
@@ -43,15 +54,15 @@ pub const ENTRIES: &[Entry] = &[
         row(draw, 6).into_iter().for_each(|opcode| draw.u8(opcode));
     })
     .every(FOURS + SIXES, every_row),
-    entry(0x52, "is_modulator", &[U8], "bool", |a, r, o| {
-        let opcode = a.u8();
-        r.rows_4.opcodes[0][0] = opcode;
-        o.bool(r.rows_4.is_modulator(0, 0));
+    entry(0x52, "is_modulator", &[U8], "bool", |given, registers, answer| {
+        let opcode = given.u8();
+        registers.rows_4.opcodes[0][0] = opcode;
+        answer.bool(registers.rows_4.is_modulator(0, 0));
     })
-    .every(256, |k, draw| draw.u8(k as u8)),
-    entry(0x53, "print", &[Bytes], "bytes, the printer's text", |a, r, o| {
-        let row = a.bytes();
-        o.name("text").slice(text(r, &row).as_bytes());
+    .every(256, |nth, draw| draw.u8(nth as u8)),
+    entry(0x53, "print", &[Bytes], "bytes, the printer's text", |given, registers, answer| {
+        let row = given.bytes();
+        answer.name("text").slice(text(registers, &row).as_bytes());
     })
     .drawn(|draw| {
         let length = if draw.one_in(8) { draw.below(12) as usize } else { draw.one_of(&[4, 6]) };
@@ -63,28 +74,28 @@ pub const ENTRIES: &[Entry] = &[
         let row = row(draw, length);
         draw.bytes(&row);
     }),
-    entry(0x54, "same_plan", &[U8s(31), U8s(31)], "bool", |a, _, o| {
-        let (a, b) = (normal(a.u8s()), normal(a.u8s()));
-        o.bool(a == b);
+    entry(0x54, "same_plan", &[U8s(31), U8s(31)], "bool", |given, _, answer| {
+        let (one, other) = (normal(given.u8s()), normal(given.u8s()));
+        answer.bool(one == other);
     })
     .drawn(two_plans),
-    entry(0x55, "six_bytes", &[Bytes], "6 × u8, zeros behind the last", |a, _, o| {
-        let mut row = a.bytes();
+    entry(0x55, "six_bytes", &[Bytes], "6 × u8, zeros behind the last", |given, _, answer| {
+        let mut row = given.bytes();
         row.resize(6, 0);
-        o.u8s(&row);
+        answer.u8s(&row);
     })
     .drawn(|draw| {
         let length = draw.below(10) as usize;
         let row = row(draw, length);
         draw.bytes(&row);
     }),
-    entry(0x56, "opcodes", &[U8, U32], "u8 of the table for 4 or 6 operators, 0 past its end", |a, _, o| {
-        let table = match a.u8() {
+    entry(0x56, "opcodes", &[U8, U32], "u8 of the table for 4 or 6 operators, 0 past its end", |given, _, answer| {
+        let table = match given.u8() {
             4 => OPCODES_4_8.concat(),
             6 => OPCODES_6_32.concat(),
             _ => Vec::new(),
         };
-        o.u8(table.get(a.usize()).copied().unwrap_or(0));
+        answer.u8(table.get(given.usize()).copied().unwrap_or(0));
     })
     .drawn(|draw| {
         let operators = operators(draw);
@@ -92,9 +103,9 @@ pub const ENTRIES: &[Entry] = &[
         draw.u8(operators);
         draw.u32(place);
     })
-    .every(256 * 200, |k, draw| {
-        draw.u8((k / 200) as u8);
-        draw.u32((k % 200) as u32);
+    .every(256 * 200, |nth, draw| {
+        draw.u8((nth / 200) as u8);
+        draw.u32((nth % 200) as u32);
     }),
 ];
 
@@ -113,10 +124,10 @@ pub struct Planned {
 }
 
 impl Planned {
-    fn write(&self, o: &mut Answer) {
-        o.name("calls").u8(self.calls.len() as u8);
-        for k in 0..6 {
-            o.name("call").u8s(self.calls.get(k).unwrap_or(&[0; 5]));
+    fn write(&self, answer: &mut Answer) {
+        answer.name("calls").u8(self.calls.len() as u8);
+        for place in 0..6 {
+            answer.name("call").u8s(self.calls.get(place).unwrap_or(&[0; 5]));
         }
     }
 }
@@ -172,7 +183,7 @@ fn compiled<const N: usize>(table: &mut Algorithms<N, 32>, row: [u8; N]) -> Plan
     Planned { number: 0, at: 0, calls }
 }
 
-/// Document 01's text for one raw row.
+/// The printer's text for one raw row.
 fn text(registers: &mut Registers, row: &[u8]) -> String {
     if !counted(row.len()) {
         return "refused 2\n".to_string();
@@ -264,16 +275,16 @@ fn two_plans(draw: &mut Draw) {
 }
 
 /// The rows of four with all meaningful bits, the ignored ones made of them; then rows of six.
-fn every_row(k: u64, draw: &mut Draw) {
-    if k >= FOURS {
+fn every_row(nth: u64, draw: &mut Draw) {
+    if nth >= FOURS {
         draw.u8(6);
         row(draw, 6).into_iter().for_each(|opcode| draw.u8(opcode));
         return;
     }
     draw.u8(4);
     for place in 0..4 {
-        let bits = (k >> (6 * place)) as u8;
-        let ignored = (k.wrapping_mul(0x9e37_79b9) >> (8 * place)) as u8 & 0x88;
+        let bits = (nth >> (6 * place)) as u8;
+        let ignored = (nth.wrapping_mul(0x9e37_79b9) >> (8 * place)) as u8 & 0x88;
         draw.u8(bits & 7 | (bits >> 3 & 7) << 4 | ignored);
     }
     draw.u8(0);

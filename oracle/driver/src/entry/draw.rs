@@ -1,8 +1,6 @@
-//! Random arguments that dwell on edges, and the endless script that a seed stands for.
+//! Random arguments that dwell on edges.
 
-use crate::Options;
-use crate::entries::Entry;
-use crate::script::Kind;
+use crate::wire::kind::Kind;
 
 /// Powers of two at which casts, roundings and exponents change.
 const POWERS: [i32; 29] = [
@@ -10,7 +8,7 @@ const POWERS: [i32; 29] = [
     126, 127,
 ];
 
-/// Numbers that a test of the Rust compares with, or that end a range of document 01.
+/// Numbers that a test of the Rust compares with, or that end a range (docs/RULES.md).
 const TESTS: [f32; 24] = [
     0.02, 0.3, 0.5, 0.98, 0.99, 1.0, 1.25, 2.0, 4.0, 6.7, 12.0, 15.0, 18.0, 32.0, 48.0, 99.0, 100.0, 120.0, 126.0,
     127.0, 128.0, 240.0, 8_000.0, 192_000.0,
@@ -39,6 +37,17 @@ pub struct Draw {
 impl Draw {
     pub fn new(seed: u64) -> Self {
         Draw { state: seed, gate: false, call: Vec::new() }
+    }
+
+    /// A call of this entry begins; its arguments follow.
+    pub fn begin(&mut self, number: u8) {
+        self.call.clear();
+        self.call.push(number);
+    }
+
+    /// The bytes of the call so far.
+    pub fn call(&self) -> &[u8] {
+        &self.call
     }
 
     pub fn random(&mut self) -> u64 {
@@ -204,62 +213,5 @@ impl Draw {
                 self.by_kind(Kind::F32s(length));
             }
         }
-    }
-}
-
-/// The script of a seed over some entries: each of them once, in order, and then at random without end. Or, where
-/// every call is asked for, all those that the entries list, one entry after the other.
-pub struct Generator {
-    draw: Draw,
-    entries: Vec<&'static Entry>,
-    wheel: Vec<&'static Entry>,
-    every: bool,
-    made: u64,
-}
-
-impl Generator {
-    pub fn new(seed: u64, entries: &[&'static Entry]) -> Self {
-        let wheel = entries.iter().flat_map(|&entry| std::iter::repeat_n(entry, entry.weight as usize)).collect();
-        Generator { draw: Draw::new(seed), entries: entries.to_vec(), wheel, every: false, made: 0 }
-    }
-
-    /// The script that a command line asks for.
-    pub fn of(options: &Options) -> Self {
-        Generator { every: options.every, ..Generator::new(options.seed, &options.entries) }
-    }
-
-    /// The next call: its entry and its bytes.
-    pub fn next(&mut self) -> (&'static Entry, &[u8]) {
-        let made = self.made;
-        self.made += 1;
-        if self.every {
-            return self.listed(made);
-        }
-        let entry = match self.entries.get(made as usize) {
-            Some(&entry) => entry,
-            None => self.draw.one_of(&self.wheel),
-        };
-        self.draw.call.clear();
-        self.draw.call.push(entry.number);
-        match entry.draw {
-            Some(draw) => draw(&mut self.draw),
-            None => entry.arguments.iter().for_each(|&kind| self.draw.by_kind(kind)),
-        }
-        (entry, &self.draw.call)
-    }
-
-    /// The call with this number among all that the entries list.
-    fn listed(&mut self, mut number: u64) -> (&'static Entry, &[u8]) {
-        for entry in &self.entries {
-            let Some(every) = &entry.every else { continue };
-            if number < every.calls {
-                self.draw.call.clear();
-                self.draw.call.push(entry.number);
-                (every.draw)(number, &mut self.draw);
-                return (entry, &self.draw.call);
-            }
-            number -= every.calls;
-        }
-        panic!("the entries list fewer calls");
     }
 }

@@ -1,7 +1,8 @@
 //! The bank of our own making whose identifiers the gate holds: every algorithm, all six LFO waves, both modes, every
 //! feedback, and rates and levels at their ends and between them.
 
-use crate::patch::{bank, pack};
+use crate::groups::bank::bank;
+use crate::groups::patch::pack;
 use plaits::fm::patch::{Envelope, KeyboardScaling, ModulationParameters, Operator, Patch};
 
 const WAVES: [&str; 6] = ["TRI", "DWN", "UP ", "SQR", "SIN", "S+H"];
@@ -17,8 +18,8 @@ const ENVELOPES: [([u8; 4], [u8; 4]); 6] = [
     ([99, 0, 99, 0], [0, 0, 0, 0]),
 ];
 
-fn operator(slot: u8, i: u8) -> Operator {
-    let k = slot * 6 + i;
+fn operator(slot: u8, place: u8) -> Operator {
+    let k = slot * 6 + place;
     // The first three kinds make up most of the bank, and the ends turn up in every algorithm.
     let kind = if k % 5 == 4 { 3 + k / 5 % 3 } else { k % 3 };
     let (rate, level) = ENVELOPES[kind as usize];
@@ -45,7 +46,7 @@ fn operator(slot: u8, i: u8) -> Operator {
 fn patch(slot: u8) -> Patch {
     let (wave, feedback) = (slot % 6, slot % 8);
     let mut patch = Patch::new();
-    patch.op = std::array::from_fn(|i| operator(slot, i as u8));
+    patch.op = std::array::from_fn(|place| operator(slot, place as u8));
     let still = Envelope { rate: [99; 4], level: [50; 4] };
     patch.pitch_envelope = match slot % 8 {
         3 => Envelope { rate: [80, 60, 40, 70], level: [99, 0, 50, 50] },

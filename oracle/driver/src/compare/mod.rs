@@ -1,42 +1,16 @@
 //! Compares the Rust with our program: one long script that is made while it is fed, and short ones with an odd end.
 
-use crate::draw::Generator;
-use crate::ends::odd_ends;
-use crate::side::{Frame, Said, Side};
-use crate::{Options, entries, report, shrink};
-use std::io::Write;
-use std::time::Duration;
+pub mod pair;
+pub mod report;
+pub mod shrink;
+pub mod side;
 
-/// How long an answer is awaited, in the long script and in short ones.
-const LONG: Duration = Duration::from_secs(60);
-pub const SHORT: Duration = Duration::from_secs(5);
-
-/// The command lines of the two programs.
-pub struct Pair {
-    rust: Vec<String>,
-    ours: Vec<String>,
-}
-
-impl Pair {
-    /// Starts both on the same bytes.
-    pub fn start(&self, script: &[u8]) -> Result<(Side, Side), String> {
-        let side = |words| {
-            let script = script.to_vec();
-            Side::start(words, true, SHORT, move |input| input.write_all(&script))
-        };
-        Ok((side(&self.rust)?, side(&self.ours)?))
-    }
-
-    /// Starts both on the first calls of the seed's script. Each side makes it for itself, so that none of it is kept.
-    pub fn start_on(&self, options: &Options, calls: u64, patience: Duration) -> Result<(Side, Side), String> {
-        let side = |words| {
-            let mut script = Generator::of(options);
-            let feed = move |input: &mut dyn Write| (0..calls).try_for_each(|_| input.write_all(script.next().1));
-            Side::start(words, patience == SHORT, patience, feed)
-        };
-        Ok((side(&self.rust)?, side(&self.ours)?))
-    }
-}
+use crate::compare::pair::{LONG, Pair};
+use crate::compare::side::{Frame, Said, Side};
+use crate::options::Options;
+use crate::script::ends::odd_ends;
+use crate::script::generate::Generator;
+use crate::table;
 
 #[derive(Default)]
 struct Tally {
@@ -66,16 +40,16 @@ fn long(options: &Options, pair: &Pair) -> Result<Tally, String> {
     while going && tally.compared < options.calls {
         let number = script.next().0.number;
         tally.compared += 1;
-        let (a, b) = (rust.frame(), ours.frame());
-        if a != Frame::Answer(number) || a != b || rust.bytes != ours.bytes {
+        let (expected, found) = (rust.frame(), ours.frame());
+        if expected != Frame::Answer(number) || expected != found || rust.bytes != ours.bytes {
             tally.differ += 1;
-            first.get_or_insert_with(|| (tally.compared, rust.said(a), ours.said(b)));
-            going = matches!((a, b), (Frame::Answer(_), Frame::Answer(_)));
+            first.get_or_insert_with(|| (tally.compared, rust.said(expected), ours.said(found)));
+            going = matches!((expected, found), (Frame::Answer(_), Frame::Answer(_)));
             by_entry[number as usize] += going as u64;
         }
     }
     tally.differ += closed(options.calls, going, rust, ours);
-    for entry in entries::all().filter(|entry| by_entry[entry.number as usize] > 0) {
+    for entry in table::all().filter(|entry| by_entry[entry.number as usize] > 0) {
         println!("{:02x} {}: {} differ", entry.number, entry.name, by_entry[entry.number as usize]);
     }
     if let Some((call, rust, ours)) = first {
@@ -130,28 +104,29 @@ fn tell(options: &Options, pair: &Pair, call: u64, rust: Said, ours: Said) -> Re
     Ok(())
 }
 
-/// Scripts with an odd end. All that both programs write must be the same, and close as the document says.
+/// Scripts with an odd end. All that both programs write must be the same, and close as docs/ORACLE.md says.
 fn short(options: &Options, pair: &Pair) -> Result<Tally, String> {
     let mut tally = Tally::default();
     for (script, closing) in odd_ends(options.seed, &options.entries) {
         let (mut rust, mut ours) = pair.start(&script)?;
         let mut same = true;
-        let (a, b) = loop {
-            let (a, b) = (rust.frame(), ours.frame());
-            same &= a == b && rust.bytes == ours.bytes;
-            if !matches!((a, b), (Frame::Answer(_), Frame::Answer(_))) {
-                break (rust.said(a), ours.said(b));
+        let (expected, found) = loop {
+            let (expected, found) = (rust.frame(), ours.frame());
+            same &= expected == found && rust.bytes == ours.bytes;
+            if !matches!((expected, found), (Frame::Answer(_), Frame::Answer(_))) {
+                break (rust.said(expected), ours.said(found));
             }
         };
         let ended = [rust.end(), ours.end()];
-        same &= a == (Frame::Closing, closing.into_bytes()) && ended.iter().all(Result::is_ok);
+        same &= expected == (Frame::Closing, closing.into_bytes()) && ended.iter().all(Result::is_ok);
         tally.compared += 1;
         tally.differ += !same as u64;
         if !same && tally.differ == 1 {
             let file = format!("{}/short.script", options.folder);
             std::fs::write(&file, &script).map_err(|e| format!("{file}: {e}"))?;
             println!("first short script that differs ({file}): {}", report::hex(&script));
-            println!("  the Rust at last:    {}\n  our program at last: {}", report::said(&a), report::said(&b));
+            let (rust, ours) = (report::said(&expected), report::said(&found));
+            println!("  the Rust at last:    {rust}\n  our program at last: {ours}");
         }
     }
     Ok(tally)

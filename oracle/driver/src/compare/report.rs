@@ -1,9 +1,9 @@
 //! What the judge tells people: numbers, arguments, answers and scripts in hex and readable.
 
-use crate::answer;
-use crate::entries::Entry;
-use crate::script::{Call, Kind, split};
-use crate::side::{Frame, Said};
+use crate::compare::side::{Frame, Said};
+use crate::entry::{Call, Entry};
+use crate::script::answer::marks;
+use crate::wire::kind::{Kind, split};
 
 /// So many calls of a script, and so many numbers of an answer, are printed.
 const MOST: usize = 40;
@@ -12,17 +12,6 @@ const MOST: usize = 40;
 pub fn hex(bytes: &[u8]) -> String {
     let shown: String = bytes.iter().take(1000).map(|byte| format!("{byte:02x}")).collect();
     if bytes.len() > 1000 { format!("{shown}.. ({} bytes)", bytes.len()) } else { shown }
-}
-
-/// A kind in the words of the document.
-pub fn kind(kind: Kind) -> String {
-    match kind {
-        Kind::U8s(n) => format!("{n} × u8"),
-        Kind::F32s(n) => format!("{n} × f32"),
-        Kind::Bytes => "bytes".to_string(),
-        Kind::Floats => "floats".to_string(),
-        _ => format!("{kind:?}").to_lowercase(),
-    }
 }
 
 /// An argument or a number of an answer, by its bits and readable.
@@ -39,7 +28,7 @@ fn value(kind: Kind, bytes: &[u8]) -> String {
 }
 
 pub fn arguments(entry: &Entry, bytes: &[u8]) -> String {
-    let list = split(entry.arguments, bytes).map(|(what, bytes)| format!("{} {}", kind(what), value(what, bytes)));
+    let list = split(entry.arguments, bytes).map(|(what, bytes)| format!("{} {}", what.words(), value(what, bytes)));
     if entry.arguments.is_empty() { "none".to_string() } else { list.collect::<Vec<_>>().join(", ") }
 }
 
@@ -55,7 +44,7 @@ pub fn said(said: &Said) -> String {
 /// Both answers to the last call: the numbers that differ, where both have the same number of bytes, else all of them.
 pub fn answers(calls: &[Call], rust: &Said, ours: &Said) {
     let alike = matches!(rust.0, Frame::Answer(_)) && rust.0 == ours.0 && rust.1.len() == ours.1.len();
-    let marks = if alike { answer::marks(calls) } else { Vec::new() };
+    let marks = if alike { marks(calls) } else { Vec::new() };
     if marks.is_empty() {
         println!("  the Rust:    {}\n  our program: {}", said(rust), said(ours));
     }
@@ -63,7 +52,7 @@ pub fn answers(calls: &[Call], rust: &Said, ours: &Said) {
     let differing = marks.iter().filter(|mark| rust.1[place(mark.at, mark.kind)] != ours.1[place(mark.at, mark.kind)]);
     for mark in differing.take(MOST) {
         let tell = |said: &Said| value(mark.kind, &said.1[place(mark.at, mark.kind)]);
-        println!("  {} at byte {} of the answer", [mark.name, &kind(mark.kind)].join(" ").trim(), mark.at);
+        println!("  {} at byte {} of the answer", [mark.name, &mark.kind.words()].join(" ").trim(), mark.at);
         println!("    the Rust:    {}\n    our program: {}", tell(rust), tell(ours));
     }
 }

@@ -1,10 +1,10 @@
 //! Finds a short script that still shows a difference: fewer and fewer of the calls before the one that differs.
 
-use crate::Options;
-use crate::compare::{Pair, SHORT};
-use crate::draw::Generator;
-use crate::script::Call;
-use crate::side::{Frame, Said};
+use crate::compare::pair::{Pair, SHORT};
+use crate::compare::side::{Frame, Said};
+use crate::entry::Call;
+use crate::options::Options;
+use crate::script::generate::Generator;
 use std::collections::VecDeque;
 use std::time::{Duration, Instant};
 
@@ -113,11 +113,11 @@ fn differ(pair: &Pair, calls: &[Call]) -> Result<Option<(Said, Said)>, String> {
     let script = calls.iter().map(|(_, bytes)| bytes.as_slice()).collect::<Vec<_>>().concat();
     let (mut rust, mut ours) = pair.start(&script)?;
     let mut found = None;
-    for (k, (entry, _)) in calls.iter().enumerate() {
-        let (a, b) = (rust.frame(), ours.frame());
-        let same = a == Frame::Answer(entry.number) && a == b && rust.bytes == ours.bytes;
-        if !same && k + 1 == calls.len() {
-            found = Some((rust.said(a), ours.said(b)));
+    for (place, (entry, _)) in calls.iter().enumerate() {
+        let (one, other) = (rust.frame(), ours.frame());
+        let same = one == Frame::Answer(entry.number) && one == other && rust.bytes == ours.bytes;
+        if !same && place + 1 == calls.len() {
+            found = Some((rust.said(one), ours.said(other)));
         }
     }
     rust.stop();

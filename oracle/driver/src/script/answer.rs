@@ -1,7 +1,10 @@
 //! Answers a script by the Rust: every call in turn, and one closing line.
 
-use crate::script::{Answer, Arguments, Call, Mark, Next, Script};
-use crate::states::Registers;
+use crate::entry::Call;
+use crate::entry::registers::Registers;
+use crate::script::read::{Next, Script};
+use crate::wire::answer::{Answer, Mark};
+use crate::wire::arguments::Arguments;
 use std::io::{self, BufReader, BufWriter, Write};
 
 pub fn answer() -> io::Result<()> {

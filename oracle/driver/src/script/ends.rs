@@ -1,7 +1,9 @@
 //! Scripts with an odd end: empty, cut short, or naming an unknown entry; each with the closing line that it must get.
 
-use crate::draw::{Draw, Generator};
-use crate::entries::{self, Entry};
+use crate::entry::Entry;
+use crate::entry::draw::Draw;
+use crate::script::generate::Generator;
+use crate::table::by_number;
 
 /// Three entries are cut at every byte (of their first 64), each other entry at one.
 pub fn odd_ends(seed: u64, chosen: &[&'static Entry]) -> Vec<(Vec<u8>, String)> {
@@ -11,16 +13,16 @@ pub fn odd_ends(seed: u64, chosen: &[&'static Entry]) -> Vec<(Vec<u8>, String)> 
     let mut list = vec![(Vec::new(), "script ended after 0 calls\n".to_string())];
 
     let everywhere: [u32; 3] = std::array::from_fn(|_| draw.below(calls.len() as u32));
-    for (k, call) in calls.iter().enumerate().filter(|(_, call)| call.len() > 1) {
+    for (place, call) in calls.iter().enumerate().filter(|(_, call)| call.len() > 1) {
         let one = 1 + draw.below(call.len() as u32 - 1) as usize;
-        let cuts = if everywhere.contains(&(k as u32)) { 1..call.len().min(65) } else { one..one + 1 };
+        let cuts = if everywhere.contains(&(place as u32)) { 1..call.len().min(65) } else { one..one + 1 };
         for cut in cuts {
             let (script, number) = after_some(&mut draw, &calls, &call[..cut]);
             list.push((script, format!("script cut short in call {number}\n")));
         }
     }
 
-    let table = entries::table();
+    let table = by_number();
     let unknown: Vec<u8> = (0..=255).filter(|&number| table[number as usize].is_none()).collect();
     for entry in [0, b's', 255].into_iter().chain((0..5).map(|_| draw.one_of(&unknown)).collect::<Vec<u8>>()) {
         let (script, number) = after_some(&mut draw, &calls, &[entry, 1, 2]);

@@ -1,13 +1,14 @@
-//! The LFO. The generator's number is the Rust's own: set before a call, read after it. A phase not in 0 ≤ phase < 1 and a
-//! frequency negative or not finite get 9, then a sample rate 5, a field 6, a scale or sample 7.
+//! The LFO. The generator's number is the Rust's own: set before a call, read after it. A phase not in 0 ≤ phase < 1
+//! and a frequency negative or not finite get 9, then a sample rate 5, a field 6, a scale or sample 7.
 
-use crate::draw::Draw;
-use crate::entries::{Entry, entry};
-use crate::forms;
-use crate::patch::modulations_fit;
-use crate::script::Kind::{Bool, F32, F32s, I32, U8, U8s, U32};
-use crate::script::{Answer, Arguments};
-use crate::states::Registers;
+use crate::entry::draw::Draw;
+use crate::entry::registers::Registers;
+use crate::entry::{Entry, entry};
+use crate::groups::patch::modulations_fit;
+use crate::wire::answer::Answer;
+use crate::wire::arguments::Arguments;
+use crate::wire::forms;
+use crate::wire::kind::Kind::{Bool, F32, F32s, I32, U8, U8s, U32};
 use plaits::fm::dx_units::lfo_frequency;
 use plaits::fm::lfo::Lfo;
 use plaits::fm::patch::ModulationParameters;
@@ -18,23 +19,23 @@ const PUT: &str = "the LFO and the generator's number: 10 × f32, u8 waveform, b
 const LENT: &str = "as without `_with`";
 
 pub const ENTRIES: &[Entry] = &[
-    entry(0x60, "put_lfo", &[F32s(10), U8, Bool, I32, U32], PUT, |a, r, o| {
-        forms::lfo(a, &mut r.lfo);
-        random::seed(a.u32());
-        write(o, r);
+    entry(0x60, "put_lfo", &[F32s(10), U8, Bool, I32, U32], PUT, |given, registers, answer| {
+        forms::lfo(given, &mut registers.lfo);
+        random::seed(given.u32());
+        write(answer, registers);
     })
     .drawn(states)
     .with_state()
     .weight(2),
-    entry(0x61, "lfo_init", &[F32], STATE, |a, r, o| {
-        let sample_rate = a.f32();
+    entry(0x61, "lfo_init", &[F32], STATE, |given, registers, answer| {
+        let sample_rate = given.f32();
         let number = if (8_000.0..=192_000.0).contains(&sample_rate) { 0 } else { 5 };
         match number {
-            0 => r.lfo.init(sample_rate),
-            _ => r.lfo = Lfo::new(),
+            0 => registers.lfo.init(sample_rate),
+            _ => registers.lfo = Lfo::new(),
         }
-        o.name("number").u8(number);
-        write(o, r);
+        answer.name("number").u8(number);
+        write(answer, registers);
     })
     .drawn(|draw| {
         let rate = match draw.below(4) {
@@ -53,18 +54,18 @@ pub const ENTRIES: &[Entry] = &[
     })
     .with_state()
     .weight(1),
-    entry(0x62, "lfo_set", &[U8s(7)], STATE, |a, r, o| {
+    entry(0x62, "lfo_set", &[U8s(7)], STATE, |given, registers, answer| {
         let mut modulations = ModulationParameters::default();
-        forms::modulations(a, &mut modulations);
-        let number = match state(&r.lfo) {
+        forms::modulations(given, &mut modulations);
+        let number = match state(&registers.lfo) {
             0 if !modulations_fit(&modulations, 7) => 6,
             number => number,
         };
         if number == 0 {
-            r.lfo.set(&modulations);
+            registers.lfo.set(&modulations);
         }
-        o.name("number").u8(number);
-        write(o, r);
+        answer.name("number").u8(number);
+        write(answer, registers);
     })
     .drawn(|draw| {
         for most in [99, 99, 99, 99, 1, 5, 7] {
@@ -72,19 +73,19 @@ pub const ENTRIES: &[Entry] = &[
             draw.u8(x);
         }
     })
-    .every(100 * 100 * 6, |k, draw| {
-        let fields = [k % 100, k / 100 % 100, k % 99, k / 7 % 100, k % 2, k / 10_000, k % 8];
+    .every(100 * 100 * 6, |nth, draw| {
+        let fields = [nth % 100, nth / 100 % 100, nth % 99, nth / 7 % 100, nth % 2, nth / 10_000, nth % 8];
         fields.into_iter().for_each(|x| draw.u8(x as u8));
     })
     .with_state()
     .weight(3),
-    entry(0x63, "lfo_reset", &[], STATE, |_, r, o| {
-        let number = state(&r.lfo);
+    entry(0x63, "lfo_reset", &[], STATE, |_, registers, answer| {
+        let number = state(&registers.lfo);
         if number == 0 {
-            r.lfo.reset();
+            registers.lfo.reset();
         }
-        o.name("number").u8(number);
-        write(o, r);
+        answer.name("number").u8(number);
+        write(answer, registers);
     })
     .with_state()
     .weight(2),
@@ -98,20 +99,30 @@ pub const ENTRIES: &[Entry] = &[
         .every(1 << 18, |_, draw| samples(draw))
         .with_state()
         .weight(16),
-    entry(0x66, "lfo_value", &[], "u8 number, f32", |_, r, o| read(o, r, Lfo::value)).with_state().weight(4),
-    entry(0x67, "delay_ramp", &[], "u8 number, f32", |_, r, o| read(o, r, Lfo::delay_ramp)).with_state().weight(4),
-    entry(0x68, "pitch_mod", &[], "u8 number, f32", |_, r, o| read(o, r, Lfo::pitch_mod)).with_state().weight(4),
-    entry(0x69, "amp_mod", &[], "u8 number, f32", |_, r, o| read(o, r, Lfo::amp_mod)).with_state().weight(4),
+    entry(0x66, "lfo_value", &[], "u8 number, f32", |_, registers, answer| read(answer, registers, Lfo::value))
+        .with_state()
+        .weight(4),
+    entry(0x67, "delay_ramp", &[], "u8 number, f32", |_, registers, answer| read(answer, registers, Lfo::delay_ramp))
+        .with_state()
+        .weight(4),
+    entry(0x68, "pitch_mod", &[], "u8 number, f32", |_, registers, answer| read(answer, registers, Lfo::pitch_mod))
+        .with_state()
+        .weight(4),
+    entry(0x69, "amp_mod", &[], "u8 number, f32", |_, registers, answer| read(answer, registers, Lfo::amp_mod))
+        .with_state()
+        .weight(4),
     entry(0x6a, "lfo_step_with", &[F32], LENT, step).drawn(scales).with_state().weight(8),
     entry(0x6b, "lfo_scrub_with", &[F32], LENT, scrub).drawn(samples).with_state().weight(8),
-    entry(0x6c, "lfo_value_with", &[], LENT, |_, r, o| read(o, r, Lfo::value)).with_state().weight(4),
+    entry(0x6c, "lfo_value_with", &[], LENT, |_, registers, answer| read(answer, registers, Lfo::value))
+        .with_state()
+        .weight(4),
 ];
 
 const RATES: [f32; 6] = [8_000.0, 22_050.0, 44_100.0, 48_000.0, 96_000.0, 192_000.0];
 
-fn write(o: &mut Answer, r: &mut Registers) {
-    forms::lfo(o, &mut r.lfo);
-    o.name("generator's number").u32(random::state());
+fn write(answer: &mut Answer, registers: &mut Registers) {
+    forms::lfo(answer, &mut registers.lfo);
+    answer.name("generator's number").u32(random::state());
 }
 
 /// 9 for a state that no call hands back.
@@ -128,30 +139,30 @@ fn moving(lfo: &Lfo, x: f32, most: f32) -> u8 {
     }
 }
 
-fn step(a: &mut Arguments, r: &mut Registers, o: &mut Answer) {
-    let scale = a.f32();
-    let number = moving(&r.lfo, scale, 1.0);
+fn step(given: &mut Arguments, registers: &mut Registers, answer: &mut Answer) {
+    let scale = given.f32();
+    let number = moving(&registers.lfo, scale, 1.0);
     if number == 0 {
-        r.lfo.step(scale);
+        registers.lfo.step(scale);
     }
-    o.name("number").u8(number);
-    write(o, r);
+    answer.name("number").u8(number);
+    write(answer, registers);
 }
 
-fn scrub(a: &mut Arguments, r: &mut Registers, o: &mut Answer) {
-    let sample = a.f32();
-    let number = moving(&r.lfo, sample, 2f32.powi(31));
+fn scrub(given: &mut Arguments, registers: &mut Registers, answer: &mut Answer) {
+    let sample = given.f32();
+    let number = moving(&registers.lfo, sample, 2f32.powi(31));
     if number == 0 {
-        r.lfo.scrub(sample);
+        registers.lfo.scrub(sample);
     }
-    o.name("number").u8(number);
-    write(o, r);
+    answer.name("number").u8(number);
+    write(answer, registers);
 }
 
-fn read(o: &mut Answer, r: &Registers, value: fn(&Lfo) -> f32) {
-    let number = state(&r.lfo);
-    o.name("number").u8(number);
-    o.name("value").f32(if number == 0 { value(&r.lfo) } else { 0.0 });
+fn read(answer: &mut Answer, registers: &Registers, value: fn(&Lfo) -> f32) {
+    let number = state(&registers.lfo);
+    answer.name("number").u8(number);
+    answer.name("value").f32(if number == 0 { value(&registers.lfo) } else { 0.0 });
 }
 
 /// A float of a state: of its own range, or any.

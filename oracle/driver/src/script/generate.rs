@@ -1,0 +1,77 @@
+//! The endless script that a seed stands for.
+
+use crate::entry::Entry;
+use crate::entry::draw::Draw;
+use crate::options::Options;
+use std::io::{self, Write};
+
+/// The script of a seed over some entries: each of them once, in order, and then at random without end. Or, where
+/// every call is asked for, all those that the entries list, one entry after the other.
+pub struct Generator {
+    draw: Draw,
+    entries: Vec<&'static Entry>,
+    wheel: Vec<&'static Entry>,
+    every: bool,
+    made: u64,
+}
+
+impl Generator {
+    pub fn new(seed: u64, entries: &[&'static Entry]) -> Self {
+        let wheel = entries.iter().flat_map(|&entry| std::iter::repeat_n(entry, entry.weight as usize)).collect();
+        Generator { draw: Draw::new(seed), entries: entries.to_vec(), wheel, every: false, made: 0 }
+    }
+
+    /// The script that a command line asks for.
+    pub fn of(options: &Options) -> Self {
+        Generator { every: options.every, ..Generator::new(options.seed, &options.entries) }
+    }
+
+    /// The next call: its entry and its bytes.
+    pub fn next(&mut self) -> (&'static Entry, &[u8]) {
+        let made = self.made;
+        self.made += 1;
+        if self.every {
+            return self.listed(made);
+        }
+        let entry = match self.entries.get(made as usize) {
+            Some(&entry) => entry,
+            None => self.draw.one_of(&self.wheel),
+        };
+        self.draw.begin(entry.number);
+        match entry.draw {
+            Some(draw) => draw(&mut self.draw),
+            None => entry.arguments.iter().for_each(|&kind| self.draw.by_kind(kind)),
+        }
+        (entry, self.draw.call())
+    }
+
+    /// The call with this number among all that the entries list.
+    fn listed(&mut self, mut number: u64) -> (&'static Entry, &[u8]) {
+        for entry in &self.entries {
+            let Some(every) = &entry.every else { continue };
+            if number < every.calls {
+                self.draw.begin(entry.number);
+                (every.draw)(number, &mut self.draw);
+                return (entry, self.draw.call());
+            }
+            number -= every.calls;
+        }
+        panic!("the entries list fewer calls");
+    }
+}
+
+/// Writes calls to standard output until the number of calls or of bytes is reached.
+pub fn generate(options: &Options) -> io::Result<()> {
+    let mut out = io::BufWriter::with_capacity(1 << 16, io::stdout().lock());
+    let mut script = Generator::of(options);
+    let mut room = options.bytes;
+    for _ in 0..options.calls {
+        let (_, call) = script.next();
+        if call.len() as u64 > room {
+            break;
+        }
+        room -= call.len() as u64;
+        out.write_all(call)?;
+    }
+    out.flush()
+}
