@@ -77,11 +77,15 @@ impl Lines {
         self.output.len() + self.error.len()
     }
 
-    /// The lines of both streams together, in the order of their slots.
-    pub fn by_slot(&self) -> Vec<&str> {
-        let mut lines: Vec<&str> = self.output.iter().chain(&self.error).map(String::as_str).collect();
-        lines.sort_by_key(|line| line.get(..2));
-        lines
+    /// The lines of both streams together, in the order of their slots, where each stands on the stream it belongs to.
+    pub fn by_slot(self) -> Option<Vec<String>> {
+        let tail = |line: &str| line.get(HEAD..).unwrap_or_default().to_string();
+        let identified = |line: &String| tail(line).len() == 16 && u64::from_str_radix(&tail(line), 16).is_ok();
+        let refused = |line: &String| tail(line).strip_prefix("refused ").is_some_and(|n| n.parse::<u8>().is_ok());
+        let sound = self.output.iter().all(identified) && self.error.iter().all(refused);
+        let mut lines = [self.output, self.error].concat();
+        lines.sort_by(|one, other| one.get(..2).cmp(&other.get(..2)));
+        sound.then_some(lines)
     }
 }
 

@@ -78,24 +78,22 @@ pub fn order(options: &Options) -> Result<bool, String> {
         random::seed(0x21);
         let mut back: Vec<u64> = slots(&turned).map(whole).collect();
         back.reverse();
-        for ((a, b), (slot, bytes)) in there.iter().zip(&back).zip(slots(&dump)).filter(|((a, b), _)| a != b) {
+        let each = there.iter().zip(&back).zip(slots(&dump));
+        for ((there, back), (slot, bytes)) in each.filter(|((there, back), _)| there != back) {
             let wave = unpacked(bytes).modulations.waveform;
             if moved < 3 {
+                let bank = patches / 32;
                 println!(
-                    "Rust, bank {}, slot {slot:02}, wave {wave}: {a:016x} in order, {b:016x} the other way round",
-                    patches / 32
+                    "Rust, bank {bank}, slot {slot:02}, wave {wave}: {there:016x} in order, \
+                     {back:016x} the other way round"
                 );
             }
             moved += 1;
             held += (wave == 5) as u64;
         }
-        let (ours, ours_turned) =
-            (Lines::of_program(&options.program, &dump)?, Lines::of_program(&options.program, &turned)?);
-        if ours.count() != 32 || ours_turned.count() != 32 {
-            return Err("the program does not print 32 lines for a bank".to_string());
-        }
+        let (there, back) = (bank_lines(&options.program, &dump)?, bank_lines(&options.program, &turned)?);
         // All but the slot's number.
-        let both = ours.by_slot().into_iter().zip(ours_turned.by_slot().into_iter().rev());
+        let both = there.iter().zip(back.iter().rev());
         ours_moved += both.filter(|(there, back)| there.get(2..) != back.get(2..)).count();
         patches += 32;
     }
@@ -105,4 +103,10 @@ pub fn order(options: &Options) -> Result<bool, String> {
         options.seed
     );
     Ok(ours_moved == 0)
+}
+
+/// A program's lines of a sound bank, by slot.
+fn bank_lines(program: &[String], dump: &[u8]) -> Result<Vec<String>, String> {
+    let lines = Lines::of_program(program, dump)?.by_slot().filter(|lines| lines.len() == 32);
+    lines.ok_or("the program does not print the 32 lines of a bank, each on its stream".to_string())
 }
