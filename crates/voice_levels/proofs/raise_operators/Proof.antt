@@ -14,10 +14,10 @@ use Rattle.voice_levels.proofs.raise_operators.Statement.{statement}
 use Rattle.voice_levels.proofs.raise_operators.Tie as tie
 
 abbrev Inv-loop : tie.InvT-loop
-Inv-loop operator-envelope row g operators op ratios level-headroom l₀ i₀ l i = (i ≤ operators) × (l ≡ raisedTo g op ratios level-headroom row operator-envelope i)
+Inv-loop g operators operator-envelope row op ratios level-headroom l₀ i₀ l i = (i ≤ operators) × (l ≡ raisedTo g op ratios level-headroom row operator-envelope i)
 
 abbrev μ-loop : tie.MeasureT-loop
-μ-loop operator-envelope row g operators op ratios level-headroom l₀ i₀ l i = operators - i
+μ-loop g operators operator-envelope row op ratios level-headroom l₀ i₀ l i = operators - i
 
 loop-holds : tie.Need-loop-holds Inv-loop μ-loop
 unfolding raisedTo decimal ofBits
@@ -88,7 +88,7 @@ loop-again c =
     let one = c .before in
     let at = one .before .before .before .before .before in
     let a = at .before .args in
-    (omega arith, raised-next (a .g) (a .t3) (a .t4) (a .t5) (a .t6) (a .t7) (at .loop .i) (at .loop .inv .1) (one .raise-operator .ensures) (c .move-to .ensures))
+    (omega arith, raised-next (a .g) (a .t5) (a .t6) (a .t7) (a .t2) (a .t1) (at .loop .i) (at .loop .inv .1) (one .raise-operator .ensures) (c .move-to .ensures))
 
 returns : tie.Need-returns Inv-loop μ-loop
 returns c =
