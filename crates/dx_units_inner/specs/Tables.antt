@@ -3,7 +3,7 @@ use mathlib.Core.List.{List, [], _∷_}
 use lib.Ieee.{Float}
 use Rattle.numbers.specs.F32.{decimal, minusDecimal}
 
--- the semitones of each coarse number
+-- the semitones of each coarse number's ratio: a half for 0, the number itself for the others
 unfoldable pub lutCoarse : List Float
 unfolding decimal minusDecimal
 lutCoarse =
@@ -41,7 +41,7 @@ lutCoarse =
     decimal 59450356 6 ∷
     []
 
--- of each amplitude modulation sensitivity
+-- the share of the amplitude modulation for each sensitivity, none to all
 unfoldable pub lutAmpModSensitivity : List Float
 unfolding decimal
 lutAmpModSensitivity =
@@ -51,7 +51,7 @@ lutAmpModSensitivity =
     decimal 10 1 ∷
     []
 
--- of each pitch modulation sensitivity
+-- the octaves of the pitch modulation for each sensitivity
 unfoldable pub lutPitchModSensitivity : List Float
 unfolding decimal
 lutPitchModSensitivity =
@@ -65,7 +65,7 @@ lutPitchModSensitivity =
     decimal 20 1 ∷
     []
 
--- the cube root of each 16th part of 1
+-- the cube root of each 16th part of 1, ends included
 unfoldable pub lutCubeRoot : List Float
 unfolding decimal
 lutCubeRoot =

@@ -1,18 +1,21 @@
-// The conversions of dx_units.rs themselves, in its order, for callers that have checked their fields, and the step for a
-// frequency, after operator.rs. Each promises its definition; where a table is looked up, the field is asked to be in
+// The conversions of dx_units.rs themselves, in its order, for callers that have checked their fields, and the step for
+// a frequency, after operator.rs. Each promises its definition; where a table is looked up, the field is asked to be in
 // bounds. `pow_2_fast` is in `dx_units_power`; the entries, which refuse what is out of range, are in `dx_units`.
+// Levels count in steps of an eighth of an octave of amplitude, 0.75 dB. The old instrument has tables and shifts
+// for most of these; the curves here come close to them, and where a curve has a jump or a corner, it stays.
 ghost use mathlib.Core.Path.{_≡_};
 ghost use Prim.Native.Nat.{_≤_, max};
 ghost use Rattle.dx_units_inner.specs.Tables.{lutCoarse, lutCubeRoot};
 ghost use Rattle.dx_units_inner.specs.Units.{operatorLevel, pitchEnvelopeLevel, operatorEnvelopeIncrement};
-ghost use Rattle.dx_units_inner.specs.Units.{pitchEnvelopeIncrement, lfoSteps, lfoFrequency, delaySteps, lfoDelay};
+ghost use Rattle.dx_units_inner.specs.Units.{pitchEnvelopeIncrement, lfoSteps, lfoFrequency};
+ghost use Rattle.dx_units_inner.specs.Units.{delaySteps, lfoDelay};
 ghost use Rattle.dx_units_inner.specs.Units.{normalizedVelocity, rateScaling, ampModSensitivity};
 ghost use Rattle.dx_units_inner.specs.Units.{pitchModSensitivity, bent, sideScaling, keyboardScaling};
 ghost use Rattle.dx_units_inner.specs.Units.{coarseSemitones, baseSemitones, fineFactor, frequencyRatio, stepFor};
 
 mod tables;
 
-// The increments of an LFO's delay and of the fade that follows.
+// The increments of an LFO's delay and of the fade that follows, in Hz: each has half a phase to go.
 pub struct Increments {
     pub first: f32,
     pub second: f32,
@@ -24,6 +27,9 @@ pub enum Ratio {
     Hertz(f32),
 }
 
+// A level from 0 to 99 in steps up to 127, the loudest: what the chip's total level, which counts downwards, leaves of
+// 127. From 20 on a level is one step, so that 99 is 127. Below it falls faster, so that 0 is 0: 15 to 19 lie one step
+// under that line, and up to 14 it is a parabola, level * (36 - level) / 8, of four steps a level at the bottom.
 pub fn operator_level(level: u8) -> u8
     ensures { λ r. ⌜ r ≡ operatorLevel level ⌝ }
 {
@@ -37,6 +43,8 @@ pub fn operator_level(level: u8) -> u8
     ((tlc + 28) % 256) as u8
 }
 
+// A level from 0 to 99 in octaves: 50 is none and 32 levels are one, so 18 is one down and 82 one up. Past an octave a
+// square makes the way steeper, up to four octaves at 0 and at 99; the 0.02 makes up for the middle, which is not 49.5.
 pub fn pitch_envelope_level(level: u8) -> f32
     ensures { λ r. ⌜ r ≡ pitchEnvelopeLevel level ⌝ }
 {
@@ -45,6 +53,8 @@ pub fn pitch_envelope_level(level: u8) -> f32
     l * (1.0 + tail * tail * 5.3056)
 }
 
+// A rate from 0 to 99 as octaves of amplitude in a sample at 44,100 Hz: an exponential in straight pieces. 64 steps, of
+// which four double the speed, each a mantissa from 4 to 7 shifted left: from 2^-20 at 0 to 7 / 128 at 99.
 pub fn operator_envelope_increment(rate: u8) -> f32
     ensures { λ r. ⌜ r ≡ operatorEnvelopeIncrement rate ⌝ }
 {
@@ -55,6 +65,8 @@ pub fn operator_envelope_increment(rate: u8) -> f32
     numbers::i32_as_f32(numbers::u32_as_i32(bits)) / 16777216.0
 }
 
+// A rate from 0 to 99 as octaves of pitch in a sample at 44,100 Hz: an octave in 21.3 seconds at 0, straight at first,
+// then a fifth power, an octave in 86 ms at 99.
 pub fn pitch_envelope_increment(rate: u8) -> f32
     ensures { λ r. ⌜ r ≡ pitchEnvelopeIncrement rate ⌝ }
 {
@@ -62,13 +74,15 @@ pub fn pitch_envelope_increment(rate: u8) -> f32
     (1.0 + 192.0 * r * (r * r * r * r + 0.3333)) / (21.3 * 44100.0)
 }
 
+// A rate from 0 to 99 in Hz, from 0.065 to 23.9: steps of the lowest frequency.
 pub fn lfo_frequency(rate: u8) -> f32
     ensures { λ r. ⌜ r ≡ lfoFrequency rate ⌝ }
 {
     numbers::u32_as_f32(lfo_steps(rate)) * 0.005865
 }
 
-// The LFO's rate in steps of the lowest frequency.
+// An LFO's rate in steps of 0.005865 Hz. The rate, stretched to 255, counts eleven of them: a straight line up to 159.
+// From 160 on the factor grows by 1 with every 16. Rate 0 is not still: it counts as the smallest number, 1.
 fn lfo_steps(rate: u8) -> u32
     ensures { λ r. ⌜ r ≡ lfoSteps rate ⌝ }
 {
@@ -82,6 +96,8 @@ fn lfo_steps(rate: u8) -> u32
     rate_scaled * (11 + ((rate_scaled - 160) >> 4))
 }
 
+// A delay from 0 to 99 as two increments in Hz: the delay's, and the fade's, which is the same in whole 128s of steps,
+// one at least. At 0 both are so large that they are over at once.
 pub fn lfo_delay(delay: u8) -> Increments
     ensures { λ r. ⌜ r ≡ lfoDelay delay ⌝ }
 {
@@ -99,7 +115,8 @@ pub fn lfo_delay(delay: u8) -> Increments
     }
 }
 
-// The LFO's delay in steps of the lowest frequency.
+// An LFO's delay in steps of 0.005865 Hz, an exponential in straight pieces that falls with the delay: 16 numbers double
+// them. 99 - delay as a byte, its lower half and 16 for a mantissa, its upper half for the shift.
 fn delay_steps(delay: u8) -> u32
     ensures { λ r. ⌜ r ≡ delaySteps delay ⌝ }
 {
@@ -113,6 +130,9 @@ fn at_least_128(n: u32) -> u32
     if n < 128 { 128 } else { n }
 }
 
+// A velocity from 0 to 1 as the steps that each unit of sensitivity changes a level by: 16 times its cube root, which
+// comes from a table, moved so that 0.77 changes nothing; 0 is 14.7 steps less. Above 0.99 it counts as 0.99, since the
+// table has no entry behind its end.
 pub fn normalize_velocity(velocity: f32) -> f32
     ensures { λ r. ⌜ r ≡ normalizedVelocity velocity ⌝ }
 {
@@ -121,12 +141,15 @@ pub fn normalize_velocity(velocity: f32) -> f32
     16.0 * (cube_root - 0.918)
 }
 
+// What a note makes of an envelope's increments, as a factor: 1 at note 21, and each 96 notes above double it as often
+// as the scaling, 0 to 7, says. 2^x by straight pieces.
 pub fn rate_scaling(note: f32, scaling: u8) -> f32
     ensures { λ r. ⌜ r ≡ rateScaling note scaling ⌝ }
 {
     dx_units_power::pow_2_fast_1(scaling as f32 * (note * 0.33333 - 7.0) * 0.03125)
 }
 
+// A sensitivity from 0 to 3 as the share of the amplitude modulation that an operator takes.
 pub fn amp_mod_sensitivity(sensitivity: u8) -> f32
     requires { ⌜ sensitivity ≤ 3 ⌝ }
     ensures { λ r. ⌜ r ≡ ampModSensitivity sensitivity ⌝ }
@@ -134,6 +157,7 @@ pub fn amp_mod_sensitivity(sensitivity: u8) -> f32
     tables::LUT_AMP_MOD_SENSITIVITY[sensitivity as usize]
 }
 
+// A sensitivity from 0 to 7 as the octaves from the LFO's lowest value to its highest, at full depth.
 pub fn pitch_mod_sensitivity(sensitivity: u8) -> f32
     requires { ⌜ sensitivity ≤ 7 ⌝ }
     ensures { λ r. ⌜ r ≡ pitchModSensitivity sensitivity ⌝ }
@@ -141,6 +165,8 @@ pub fn pitch_mod_sensitivity(sensitivity: u8) -> f32
     tables::LUT_PITCH_MOD_SENSITIVITY[sensitivity as usize]
 }
 
+// The change of the level at a note, in steps: none at the break point, whose number 0 is note 15, and on each side by
+// that side's curve and depth.
 pub fn keyboard_scaling(
     note: f32,
     left_depth: u8,
@@ -158,7 +184,8 @@ pub fn keyboard_scaling(
     side_scaling(x, left_curve, left_depth)
 }
 
-// On one side of the break point, by its curve and depth.
+// At x semitones from the break point, by the curve and the depth of that side: curves 0 and 1 go down, 2 and 3 up.
+// At the full depth of 99 a semitone of a straight curve is 2.65 steps.
 fn side_scaling(x: f32, curve: u8, depth: u8) -> f32
     ensures { λ r. ⌜ r ≡ sideScaling x curve depth ⌝ }
 {
@@ -169,7 +196,8 @@ fn side_scaling(x: f32, curve: u8, depth: u8) -> f32
     t * depth as f32 * 0.02677
 }
 
-// Curves 1 and 2 are cubes, of a distance up to some eight octaves; the others are straight.
+// A distance in semitones, bent. Curves 1 and 2 are cubes, slow near the break point; at 95.5 semitones, some eight
+// octaves, they come to 96 and stay there. The others are straight.
 fn bend(t: f32, curve: u8) -> f32
     ensures { λ r. ⌜ r ≡ bent t curve ⌝ }
 {
@@ -183,6 +211,8 @@ fn bend(t: f32, curve: u8) -> f32
     t
 }
 
+// An operator's frequency: in mode 0 a ratio to the note's, by coarse and fine, else one to 1 Hz, fixed. The detune, 7
+// for none, moves either by 1.5 cents a step.
 pub fn frequency_ratio(
     high: &[f32; 256],
     low: &[f32; 256],
@@ -202,7 +232,8 @@ pub fn frequency_ratio(
     Ratio::Hertz(ratio)
 }
 
-// The semitones without the detune.
+// The semitones without the detune: in mode 0 the coarse number's, else hundredths of a decade above 1 Hz, of which each
+// is 12 log2(10) / 100 semitones: powers of ten by the coarse number's lowest two bits, 1 Hz to 9.8 kHz in all.
 fn base_semitones(mode: u8, coarse: u8, fine: u8) -> f32
     requires { ⌜ coarse ≤ 31 ⌝ }
     ensures { λ r. ⌜ r ≡ baseSemitones mode coarse fine ⌝ }
@@ -213,6 +244,7 @@ fn base_semitones(mode: u8, coarse: u8, fine: u8) -> f32
     ((coarse % 4) as u32 * 100 + fine as u32) as f32 * 0.39864
 }
 
+// The semitones of the ratio that a coarse number names.
 fn coarse_semitones(coarse: u8) -> f32
     requires { ⌜ coarse ≤ 31 ⌝ }
     ensures { λ r. ⌜ r ≡ coarseSemitones coarse ⌝ }
@@ -220,7 +252,8 @@ fn coarse_semitones(coarse: u8) -> f32
     tables::LUT_COARSE[coarse as usize]
 }
 
-// What a fine number adds to a ratio to the note.
+// What a ratio to the note is multiplied by for its fine number: 1.00 to 1.99. A fixed frequency has its fine number
+// among its semitones.
 fn fine_factor(mode: u8, fine: u8) -> f32
     ensures { λ r. ⌜ r ≡ fineFactor mode fine ⌝ }
 {
@@ -232,8 +265,8 @@ fn fine_factor(mode: u8, fine: u8) -> f32
     1.0
 }
 
-// The step of a phase of 32 bits at a frequency in turns a sample: held at a half turn from there on and
-// for a NaN, and at 0 below 0.
+// The step of a phase of 32 bits at a frequency in turns a sample: held at a half turn from there on and for a NaN, and
+// at 0 below 0.
 pub fn frequency_step(frequency: f32) -> u32
     ensures { λ r. ⌜ r ≡ stepFor frequency ⌝ }
 {

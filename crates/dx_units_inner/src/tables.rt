@@ -1,4 +1,6 @@
 // The tables of dx_units.rs, number for number.
+
+// The semitones of each coarse number's ratio: a half for 0, the number itself for the others, 12 log2 of it.
 pub const LUT_COARSE: [f32; 32] = [
     -12.000000,
     0.000000,
@@ -34,8 +36,11 @@ pub const LUT_COARSE: [f32; 32] = [
     59.450356,
 ];
 
+// The share of the amplitude modulation for each sensitivity, none to all.
 pub const LUT_AMP_MOD_SENSITIVITY: [f32; 4] = [0.0, 0.2588, 0.4274, 1.0];
 
+// The octaves of the pitch modulation for each sensitivity: 0, 10, 20, 33, 55, 92, 153 and 256 of 128 parts, from 20 on
+// each about five thirds of the one before.
 pub const LUT_PITCH_MOD_SENSITIVITY: [f32; 8] = [
     0.0,
     0.0781250,
@@ -47,6 +52,7 @@ pub const LUT_PITCH_MOD_SENSITIVITY: [f32; 8] = [
     2.0,
 ];
 
+// The cube root of each 16th part of 1, ends included: a lookup goes straight from one to the next.
 pub const LUT_CUBE_ROOT: [f32; 17] = [
     0.0,
     0.39685062976,
