@@ -1,7 +1,7 @@
 -- What every plan of a row keeps to, by one walk along the row, and what an accepted one does; then, that each operator is in exactly one call.
 -- Assumes nothing.
 use mathlib.Core.Path.{_≡_, refl, sym, ap, subst, _∙_}
-use mathlib.Core.Bool.{Bool, true, false, cond, not, _&&_, _||_, true≢false, false≢true}
+use mathlib.Core.Bool.{Bool, true, false, cond, not, _&&_, _||_, true≢false, false≢true, and-eq-true-iff}
 use mathlib.Core.Logic.{_⊎_, inl, inr, ⊎-elim}
 use Prim.Native.Nat.{ℕ, zero, suc, _+_, _-_, _≤_, _<_}
 use native.Mathlib.Nat.{add-zero, le-refl}
@@ -22,8 +22,7 @@ use Rattle.algorithms.specs.declared.Call.{Call}
 use Rattle.algorithms.specs.declared.Plan.{Plan}
 use Rattle.algorithms.specs.declared.Planned.{Planned}
 use Rattle.algorithms.proofs.Lengths.{cond-most, modulation-first, rendered-within}
-use Rattle.algorithms.proofs.Steps.{call-input, call-output, ready-before, counted-few}
-use Rattle.algorithms.proofs.Tables.{and-left, and-right}
+use Rattle.algorithms.proofs.Steps.{at-call, call-input, call-output, ready-before, counted-few}
 
 -- ---- a renderer's chain
 
@@ -32,7 +31,7 @@ or-cases true b e = inl refl
 or-cases false b e = inr e
 
 both-equal : (n k j i : ℕ) → (eqb n k && eqb j i) ≡ true → (n ≡ k) × (j ≡ i)
-both-equal n k j i e = (eqb-true n k (and-left (eqb n k) (eqb j i) e), eqb-true j i (and-right (eqb n k) (eqb j i) e))
+both-equal n k j i e = let p = and-eq-true-iff (eqb n k) (eqb j i) .0 e in (eqb-true n k (p .0), eqb-true j i (p .1))
 
 -- a renderer with feedback: the origin is the last operator, and several operators are 2 or 3 of six, with the way add
 record Fed (operators n j : ℕ) (add : Bool) : Type 0 where
@@ -51,12 +50,14 @@ fed-known operators n j add e = ⊎-elim (λ z. single (both-equal n 1 j 0 z)) c
 
     chain : (eqb operators 6 && (add && ((eqb n 3 && eqb j 2) || (eqb n 2 && eqb j 1)))) ≡ true → Fed operators n j add
     chain z =
-        let x = eqb-true operators 6 (and-left (eqb operators 6) (add && ((eqb n 3 && eqb j 2) || (eqb n 2 && eqb j 1))) z) in
-        let w = and-right (eqb operators 6) (add && ((eqb n 3 && eqb j 2) || (eqb n 2 && eqb j 1))) z in
-        let y = and-left add ((eqb n 3 && eqb j 2) || (eqb n 2 && eqb j 1)) w in
+        let three-or-two = (eqb n 3 && eqb j 2) || (eqb n 2 && eqb j 1) in
+        let w = and-eq-true-iff (eqb operators 6) (add && three-or-two) .0 z in
+        let v = and-eq-true-iff add three-or-two .0 (w .1) in
+        let x = eqb-true operators 6 (w .0) in
+        let y = v .0 in
         ⊎-elim (λ v. several 3 2 (omega arith) (omega arith) (both-equal n 3 j 2 v) x y)
         (λ v. several 2 1 (omega arith) (omega arith) (both-equal n 2 j 1 v) x y)
-        (or-cases (eqb n 3 && eqb j 2) (eqb n 2 && eqb j 1) (and-right add ((eqb n 3 && eqb j 2) || (eqb n 2 && eqb j 1)) w))
+        (or-cases (eqb n 3 && eqb j 2) (eqb n 2 && eqb j 1) (v .1))
 
 -- a feedback call's origin is its last operator
 pub origin-last : (operators n j : ℕ) (add : Bool) → known operators n (feedback j) add ≡ true → j + 1 ≡ n
@@ -227,27 +228,13 @@ walk-good operators last h t [] inside first p l i g = good-at operators (first 
 walk-good operators last h t (o ∷ os) (suc inside) first p l i g =
     walk-good operators last h t os inside (suc first) p (omega arith) (omega arith) (good-at operators (first + suc inside) (suc first + inside) p (omega arith) g)
 walk-good operators last h t (o ∷ os) zero first p l i g =
-    pick (eqb n 0) (unready (ready (p .calls) (p .count)) c) refl refl
+    let n = rendered operators (o ∷ os) in
+    let c = callOf first n (o ∷ os) in
+    at-call (λ q. Good operators (end last q) (q .plan)) operators first p o os (good-start operators) (good-start operators)
     (λ x y. walk-good operators last h t os (n - 1) (suc first) (extended p c) (omega arith) (omega (arith, rendered-within operators o os))
     (good-at operators (first + n) (suc first + (n - 1)) (extended p c) (omega (arith, positive n x))
     (good-more operators first n p c h (omega arith) refl refl (positive n x) (call-sound operators first o os c refl (eqb-false n 0 x) (omega arith)) y
     (good-at operators (first + 0) first p (add-zero first) g))))
-  where
-    n : ℕ
-    n = rendered operators (o ∷ os)
-
-    c : Call
-    c = callOf first n (o ∷ os)
-
-    next : Planned
-    next = planFrom operators (n - 1) (suc first) (extended p c) os
-
-    pick : (b d : Bool) → eqb n 0 ≡ b → unready (ready (p .calls) (p .count)) c ≡ d
-        → (eqb n 0 ≡ false → unready (ready (p .calls) (p .count)) c ≡ false → Good operators (end last next) (next .plan))
-        → Good operators (end last (cond b (refusal 3 first) (cond d (refusal 4 first) next))) (cond b (refusal 3 first) (cond d (refusal 4 first) next) .plan)
-    pick true d x y f = good-start operators
-    pick false true x y f = good-start operators
-    pick false false x y f = f x y
 
 -- ---- the plan of a row, accepted or not, and however long the row is
 

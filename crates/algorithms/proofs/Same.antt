@@ -1,7 +1,7 @@
 -- The test of two plans says whether they are equal.
 -- Assumes nothing.
 use mathlib.Core.Path.{_≡_, refl}
-use mathlib.Core.Bool.{Bool, true, false, Bool·beq, false≢true}
+use mathlib.Core.Bool.{Bool, true, false, _&&_, Bool·beq, false≢true, and-eq-true-iff}
 use Prim.Native.Nat.{ℕ, _+_, _≤_, _<_}
 use native.Mathlib.Numerals.{add-one}
 use mathlib.Core.List.{List, [], _∷_}
@@ -12,7 +12,6 @@ use borrow.Author.Tests.{eqb-true, eq-eqb}
 use Rattle.algorithms.specs.Plan.{noCall, sameCall, sameCalls, samePlan}
 use Rattle.algorithms.specs.declared.Call.{Call}
 use Rattle.algorithms.specs.declared.Plan.{Plan}
-use Rattle.algorithms.proofs.Tables.{and-left, and-right}
 
 beq-equal : (a b : Bool) → Bool·beq a b ≡ true → a ≡ b
 beq-equal true true e = refl
@@ -35,15 +34,21 @@ plan-equal n n′ cs ds x y = rw (x, y)
 pub same-call-equal : (c d : Call) → sameCall c d ≡ true → c ≡ d
 unfolding sameCall
 same-call-equal c d e =
-    let e₁ = and-right (eqb (c .first) (d .first)) _ e in
-    let e₂ = and-right (eqb (c .n) (d .n)) _ e₁ in
-    let e₃ = and-right (eqb (c .input) (d .input)) _ e₂ in
-    let e₄ = and-right (eqb (c .output) (d .output)) _ e₃ in
-    let x₁ = eqb-true (c .first) (d .first) (and-left (eqb (c .first) (d .first)) _ e) in
-    let x₂ = eqb-true (c .n) (d .n) (and-left (eqb (c .n) (d .n)) _ e₁) in
-    let x₃ = eqb-true (c .input) (d .input) (and-left (eqb (c .input) (d .input)) _ e₂) in
-    let x₄ = eqb-true (c .output) (d .output) (and-left (eqb (c .output) (d .output)) _ e₃) in
-    call-equal _ _ _ _ _ _ _ _ _ _ x₁ x₂ x₃ x₄ (beq-equal (c .add) (d .add) e₄)
+    let e₁ = and-eq-true-iff (eqb (c .first) (d .first)) _ .0 e in
+    let e₂ = and-eq-true-iff (eqb (c .n) (d .n)) _ .0 (e₁ .1) in
+    let e₃ = and-eq-true-iff (eqb (c .input) (d .input)) _ .0 (e₂ .1) in
+    let e₄ = and-eq-true-iff (eqb (c .output) (d .output)) _ .0 (e₃ .1) in
+    let x₁ = eqb-true (c .first) (d .first) (e₁ .0) in
+    let x₂ = eqb-true (c .n) (d .n) (e₂ .0) in
+    let x₃ = eqb-true (c .input) (d .input) (e₃ .0) in
+    let x₄ = eqb-true (c .output) (d .output) (e₄ .0) in
+    call-equal _ _ _ _ _ _ _ _ _ _ x₁ x₂ x₃ x₄ (beq-equal (c .add) (d .add) (e₄ .1))
+
+-- two calls alike up to their inputs are the same where their outputs and their ways are
+pub same-from-output : (c d : Call) → c .first ≡ d .first → c .n ≡ d .n → c .input ≡ d .input
+    → sameCall c d ≡ eqb (c .output) (d .output) && Bool·beq (c .add) (d .add)
+unfolding sameCall
+same-from-output c d x y z = simp (eq-eqb _ _ x, eq-eqb _ _ y, eq-eqb _ _ z)
 
 same-calls-equal : (cs ds : List Call) → sameCalls cs ds ≡ true → cs ≡ ds
 unfolding sameCalls
@@ -51,16 +56,18 @@ same-calls-equal [] [] e = refl
 same-calls-equal [] (d ∷ ds) e = absurd (false≢true e)
 same-calls-equal (c ∷ cs) [] e = absurd (false≢true e)
 same-calls-equal (c ∷ cs) (d ∷ ds) e =
-    let x = same-call-equal c d (and-left (sameCall c d) (sameCalls cs ds) e) in
-    let y = same-calls-equal cs ds (and-right (sameCall c d) (sameCalls cs ds) e) in
+    let h = and-eq-true-iff (sameCall c d) (sameCalls cs ds) .0 e in
+    let x = same-call-equal c d (h .0) in
+    let y = same-calls-equal cs ds (h .1) in
     cc
 
 -- plans that the test calls the same are equal
 pub same-plan-equal : (p q : Plan) → samePlan p q ≡ true → p ≡ q
 unfolding samePlan
 same-plan-equal p q e =
-    let x = eqb-true (p .count) (q .count) (and-left (eqb (p .count) (q .count)) (sameCalls (p .calls) (q .calls)) e) in
-    let y = same-calls-equal (p .calls) (q .calls) (and-right (eqb (p .count) (q .count)) (sameCalls (p .calls) (q .calls)) e) in
+    let h = and-eq-true-iff (eqb (p .count) (q .count)) (sameCalls (p .calls) (q .calls)) .0 e in
+    let x = eqb-true (p .count) (q .count) (h .0) in
+    let y = same-calls-equal (p .calls) (q .calls) (h .1) in
     plan-equal _ _ _ _ x y
 
 pub same-call-self : (c : Call) → sameCall c c ≡ true

@@ -1,7 +1,7 @@
 -- The walk along a row, call by call, and the flags that say which buffers are ready.
 -- Assumes nothing.
 use mathlib.Core.Path.{_≡_, refl, sym, ap, _∙_}
-use mathlib.Core.Bool.{Bool, true, false, not, _&&_, _||_, true≢false, false≢true}
+use mathlib.Core.Bool.{Bool, true, false, cond, not, _&&_, _||_, true≢false, false≢true}
 use Prim.Native.Nat.{ℕ, zero, suc, _+_, _-_, _≤_, _<_}
 use native.Mathlib.Nat.{add-zero, le-refl}
 use native.Mathlib.Numerals.{add-one}
@@ -16,6 +16,7 @@ use Rattle.algorithms.specs.Chain.{rowFrom, Within, rendered}
 use Rattle.algorithms.specs.Plan.{callOf, noCall, reading, ready, unready, extended, refusal, planFrom, counted}
 use Rattle.algorithms.specs.declared.Call.{Call}
 use Rattle.algorithms.specs.declared.Plan.{Plan}
+use Rattle.algorithms.specs.declared.Planned.{Planned}
 use Rattle.algorithms.proofs.Rows.{row-cons}
 
 -- the operators inside a call are passed over
@@ -24,6 +25,29 @@ unfolding planFrom
 inside operators zero first p os = rw add-zero
 inside operators (suc k) first p [] = refl
 inside operators (suc k) first p (o ∷ os) = inside operators k (suc first) p os ∙ ap (λ (j : ℕ). planFrom operators 0 j p (drop k os)) (omega arith)
+
+-- what holds of both refusals, and of the walk behind an accepted call, holds of the walk where a call begins
+module _ (A : Planned → Type 0) (operators first : ℕ) (p : Plan) (o : ℕ) (os : List ℕ) where
+  abbrev n : ℕ
+  n = rendered operators (o ∷ os)
+
+  abbrev c : Call
+  c = callOf first n (o ∷ os)
+
+  abbrev next : Planned
+  next = planFrom operators (n - 1) (suc first) (extended p c) os
+
+  pub at-call : A (refusal 3 first) → A (refusal 4 first)
+      → (eqb n 0 ≡ false → unready (ready (p .calls) (p .count)) c ≡ false → A next)
+      → A (planFrom operators 0 first p (o ∷ os))
+  unfolding planFrom
+  at-call lacks-one is-unready goes-on = pick (eqb n 0) (unready (ready (p .calls) (p .count)) c) refl refl
+    where
+      pick : (b d : Bool) → eqb n 0 ≡ b → unready (ready (p .calls) (p .count)) c ≡ d
+          → A (cond b (refusal 3 first) (cond d (refusal 4 first) next))
+      pick true d x y = lacks-one
+      pick false true x y = is-unready
+      pick false false x y = goes-on x y
 
 module _ (operators first : ℕ) (row : List ℕ) (w : Within operators first row) (p : Plan) (n : ℕ) (en : n ≡ rendered operators (rowFrom operators first row)) where
   -- a call without a renderer

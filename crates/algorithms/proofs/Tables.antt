@@ -1,7 +1,7 @@
 -- The test of a table, and a row within it.
 -- Assumes nothing.
-use mathlib.Core.Path.{_≡_, refl, _∙_}
-use mathlib.Core.Bool.{Bool, true, false, _&&_, false≢true}
+use mathlib.Core.Path.{_≡_, _∙_}
+use mathlib.Core.Bool.{Bool, true, false, _&&_, and-eq-true-iff}
 use Prim.Native.Nat.{ℕ, _+_, _*_, _/_, _%_, _≤_, _<_}
 use native.Mathlib.Nat.{mul-le-mul-right, div-mul-le-self, suc-mul, le-trans}
 use native.Mathlib.Omega.{arith}
@@ -14,22 +14,16 @@ use Rattle.algorithms.specs.Table.{six, tabled, rowOf, withRow, compiled
 use Rattle.algorithms.specs.declared.Compiled.{Compiled}
 use Rattle.algorithms.specs.declared.Planned.{Planned}
 
-pub and-left : (a b : Bool) → (a && b) ≡ true → a ≡ true
-and-left true b e = refl
-and-left false b e = e
-
-pub and-right : (a b : Bool) → (a && b) ≡ true → b ≡ true
-and-right true b e = e
-and-right false b e = absurd (false≢true e)
-
 pub row-fits : (operators : ℕ) (table : List ℕ) (row : ℕ) → tabled operators table row ≡ true → row * operators + operators ≤ length table
 unfolding tabled
 row-fits operators table row e =
     let r = length table / operators in
-    let e₁ = and-right (counted operators) (ltb 0 (length table) && (eqb (length table % operators) 0 && (leb r 32 && ltb row r))) e in
-    let e₂ = and-right (ltb 0 (length table)) (eqb (length table % operators) 0 && (leb r 32 && ltb row r)) e₁ in
-    let e₃ = and-right (eqb (length table % operators) 0) (leb r 32 && ltb row r) e₂ in
-    let h = ltb-true row r (and-right (leb r 32) (ltb row r) e₃) in
+    let in-table = leb r 32 && ltb row r in
+    let of-rows = eqb (length table % operators) 0 && in-table in
+    let e₁ = and-eq-true-iff (counted operators) (ltb 0 (length table) && of-rows) .0 e in
+    let e₂ = and-eq-true-iff (ltb 0 (length table)) of-rows .0 (e₁ .1) in
+    let e₃ = and-eq-true-iff (eqb (length table % operators) 0) in-table .0 (e₂ .1) in
+    let h = ltb-true row r (and-eq-true-iff (leb r 32) (ltb row r) .0 (e₃ .1) .1) in
     rw (← suc-mul row operators) (le-trans (mul-le-mul-right operators h) (div-mul-le-self (length table) operators))
 
 -- ---- the tests of the code, in order

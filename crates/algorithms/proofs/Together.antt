@@ -1,7 +1,7 @@
 -- A row and a plan walked together: a plan's first calls, and what each test of the walk says of the whole row.
 -- Assumes nothing.
 use mathlib.Core.Path.{_≡_, refl, sym, ap, _∙_}
-use mathlib.Core.Bool.{Bool, true, false, cond, _&&_, true≢false}
+use mathlib.Core.Bool.{Bool, true, false, cond, _&&_, true≢false, and-eq-true-iff}
 use Prim.Native.Nat.{ℕ, zero, suc, _+_, _-_, _≤_, _<_}
 use native.Mathlib.Decide.{decLt}
 use native.Mathlib.Numerals.{add-one}
@@ -16,7 +16,7 @@ use Rattle.algorithms.specs.Plan.{noCall, noPlan, callOf, ready, unready
 use Rattle.algorithms.specs.declared.Call.{Call}
 use Rattle.algorithms.specs.declared.Plan.{Plan}
 use Rattle.algorithms.specs.declared.Planned.{Planned}
-use Rattle.algorithms.proofs.Tables.{and-left, and-right}
+use Rattle.algorithms.proofs.Steps.{at-call}
 use Rattle.algorithms.proofs.Same.{same-call-equal, same-call-self, same-plan-equal, same-more, same-less}
 
 -- ---- a plan's first calls
@@ -105,25 +105,13 @@ unfolding planFrom
 kept-calls operators [] inside first p k h e = refl
 kept-calls operators (o ∷ os) (suc inside) first p k h e = kept-calls operators os inside (suc first) p k h e
 kept-calls operators (o ∷ os) zero first p k h e =
-    pick (eqb n 0) (unready (ready (p .calls) (p .count)) c)
-    (λ z. kept-calls operators os (n - 1) (suc first) (extended p c) k (unfold extended in omega arith) z ∙ (unfold extended in getD-set-other (p .calls) (p .count) k c noCall (omega arith)))
+    let n = rendered operators (o ∷ os) in
+    let c = callOf first n (o ∷ os) in
+    at-call (λ q. q .number ≡ 0 → getD (q .plan .calls) k noCall ≡ getD (p .calls) k noCall) operators first p o os
+    (λ z. absurd (omega arith))
+    (λ z. absurd (omega arith))
+    (λ x y z. kept-calls operators os (n - 1) (suc first) (extended p c) k (unfold extended in omega arith) z ∙ (unfold extended in getD-set-other (p .calls) (p .count) k c noCall (omega arith)))
     e
-  where
-    n : ℕ
-    n = rendered operators (o ∷ os)
-
-    c : Call
-    c = callOf first n (o ∷ os)
-
-    next : Planned
-    next = planFrom operators (n - 1) (suc first) (extended p c) os
-
-    pick : (b d : Bool) → (next .number ≡ 0 → getD (next .plan .calls) k noCall ≡ getD (p .calls) k noCall)
-        → cond b (refusal 3 first) (cond d (refusal 4 first) next) .number ≡ 0
-        → getD (cond b (refusal 3 first) (cond d (refusal 4 first) next) .plan .calls) k noCall ≡ getD (p .calls) k noCall
-    pick true d f e = absurd (omega arith)
-    pick false true f e = absurd (omega arith)
-    pick false false f e = f e
 
 module _ (operators : ℕ) (row : List ℕ) (plan : Plan) where
   pub uncounted : counted operators ≡ false → false ≡ isPlanOf operators row plan
@@ -153,8 +141,9 @@ module _ (operators : ℕ) (row : List ℕ) (plan : Plan) where
       differ z =
           let a = eqb (planned operators row .number) 0 in
           let b = samePlan plan (planned operators row .plan) in
-          let y : plan ≡ planFrom operators 0 first p os .plan = same-plan-equal plan (planned operators row .plan) (and-right a b z) ∙ ap (λ (q : Planned). q .plan) (sym e) in
-          let x = ap (λ (q : Planned). q .number) e ∙ eqb-true (planned operators row .number) 0 (and-left a b z) in
+          let w = and-eq-true-iff a b .0 z in
+          let y : plan ≡ planFrom operators 0 first p os .plan = same-plan-equal plan (planned operators row .plan) (w .1) ∙ ap (λ (q : Planned). q .plan) (sym e) in
+          let x = ap (λ (q : Planned). q .number) e ∙ eqb-true (planned operators row .number) 0 (w .0) in
           let g = kept-calls operators os 0 first p k (omega (arith, first-count plan k)) x in
           let n : getD (p .calls) k noCall ≡ c = rw (first-count plan k) (getD-set-same (firstCalls k plan .calls) k c noCall (omega (arith, first-slots plan k))) in
           true≢false (sym (same-call-self c) ∙ ap (λ (o : Call). sameCall c o) (sym (ap (λ (q : Plan). getD (q .calls) k noCall) y ∙ g ∙ n)) ∙ d)

@@ -1,4 +1,5 @@
--- What every accepted plan keeps to: its calls cover the operators, have renderers, and read and add to ready buffers only.
+-- What every accepted plan keeps to: its calls cover the operators, have renderers, and read and add to ready buffers
+-- only. Definitions that theorems speak in; no answer is made of them.
 use Prim.Native.Nat.{ℕ, zero, suc, _+_, _≤_, _<_}
 use mathlib.Core.Path.{_≡_}
 use mathlib.Core.Bool.{true}
@@ -13,7 +14,8 @@ unfoldable pub covered : List Call → ℕ → ℕ
 covered cs zero = 0
 covered cs (suc k) = getD cs k noCall .first + getD cs k noCall .n
 
--- the calls are in row order, each with an operator or more, from where the call before it ends, and they end at the last operator
+-- the calls are in row order, each with an operator or more, from where the call before it ends, and they end at the
+-- last operator
 pub record Covering (cs : List Call) (count operators : ℕ) : Type 0 where
   pub starts : (k : ℕ) → k < count → getD cs k noCall .first ≡ covered cs k
   pub some : (k : ℕ) → k < count → 1 ≤ getD cs k noCall .n

@@ -1,4 +1,4 @@
--- How many operators a call takes: a chain's growth, the reuse rule, and the renderers that are known.
+-- How many operators a call takes: a chain's growth, the reuse rule, and the renderers that are known. To be believed.
 -- A list `os` here is the row from the call's first operator on.
 use Prim.Native.Nat.{ℕ, suc, _-_, _≤_, _<_}
 use mathlib.Core.Path.{_≡_}
@@ -37,7 +37,8 @@ unfoldable pub grown : List ℕ → ℕ
 grown [] = 0
 grown (o ∷ os) = cond (ends o os) 1 (suc (grown os))
 
--- the reuse rule's test: the chain stops short of the row's end, and that next source is its first operator's destination
+-- the reuse rule's test: the chain stops short of the row's end, and the next source is its first operator's
+-- destination. That modulation is wanted once more, and a chain rendered as one would not leave it in its buffer
 unfoldable pub reused : List ℕ → Bool
 reused os = ltb (grown os) (length os) && eqb (source (getD os (grown os) 0)) (destination (getD os 0 0))
 
@@ -47,7 +48,8 @@ chained os = cond (reused os) 1 (grown os)
 
 -- ---- renderers
 
--- what modulates a call's first operator: nothing, a buffer, feedback from the operator that is the origin, or feedback without an origin
+-- what modulates a call's first operator: nothing, a buffer, feedback from the operator that is the origin, or feedback
+-- without an origin
 pub data Modulation : Type 0 where
   unmodulated : Modulation
   external : Modulation

@@ -1,4 +1,4 @@
--- What the bits of an operator's opcode say. Bits 3 and 7 are ignored.
+-- What the bits of an operator's opcode say. Bits 3 and 7 are ignored. To be believed.
 use Prim.Native.Nat.{ℕ, _/_, _%_}
 use mathlib.Core.Bool.{Bool, not}
 use lib.Dec.{eqb}

@@ -1,4 +1,4 @@
--- A row's plan: its calls, and when the row is refused.
+-- A row's plan: its calls, and when the row is refused. To be believed, but for the last definition.
 use Prim.Native.Nat.{ℕ, zero, suc, _+_, _-_}
 use mathlib.Core.Bool.{Bool, true, false, cond, not, _&&_, _||_, Bool·beq}
 use mathlib.Core.List.{List, [], _∷_}
@@ -17,7 +17,8 @@ noCall = record { first = 0; n = 0; input = 0; output = 0; add = false }
 abbrev pub noPlan : Plan
 noPlan = record { count = 0; calls = noCall ∷ noCall ∷ noCall ∷ noCall ∷ noCall ∷ noCall ∷ [] }
 
--- the call of n operators from `first` on; `os` is the row from there on. Its input is its first operator's source; it writes as its last operator says
+-- the call of n operators from `first` on; `os` is the row from there on. Its input is its first operator's source; it
+-- writes as its last operator says
 unfoldable pub callOf : ℕ → ℕ → List ℕ → Call
 callOf first n os = record {
   first = first;
@@ -48,8 +49,8 @@ extended p c = record { count = p .count + 1; calls = set (p .calls) (p .count) 
 abbrev pub refusal : ℕ → ℕ → Planned
 refusal number at = record { number = number; at = at; plan = noPlan }
 
--- the row from operator `first` on, where the plan has the calls before it, and `inside` operators belong to the last of these.
--- The first faulty call decides; in one call 3 comes before 4
+-- the row from operator `first` on, where the plan has the calls before it, and `inside` operators belong to the last
+-- of these. The first faulty call decides; in one call 3 comes before 4
 unfoldable pub planFrom : ℕ → ℕ → ℕ → Plan → List ℕ → Planned
 planFrom operators inside first p [] = record { number = 0; at = 0; plan = p }
 planFrom operators (suc inside) first p (o ∷ os) = planFrom operators inside (suc first) p os
@@ -90,7 +91,7 @@ samePlan p q = eqb (p .count) (q .count) && sameCalls (p .calls) (q .calls)
 unfoldable pub isPlanOf : ℕ → List ℕ → Plan → Bool
 isPlanOf operators row plan = eqb (planned operators row .number) 0 && samePlan plan (planned operators row .plan)
 
--- the plan of a plan's first k calls
+-- a way of computing, for the walk of a row and a plan together: the plan of a plan's first k calls
 unfoldable pub firstCalls : ℕ → Plan → Plan
 firstCalls zero p = noPlan
 firstCalls (suc k) p = extended (firstCalls k p) (getD (p .calls) k noCall)

@@ -1,4 +1,4 @@
--- A lent table of rows, and the row that is asked for.
+-- A lent table of rows, and the row that is asked for. To be believed.
 use Prim.Native.Nat.{ℕ, _*_, _/_, _%_}
 use mathlib.Core.Bool.{Bool, cond, _&&_}
 use mathlib.Core.List.{List, [], _∷_}
@@ -27,7 +27,12 @@ rowOf operators table row = six (take operators (drop (row * operators) table))
 
 -- a refusal's row and plan are zero
 unfoldable pub withRow : List ℕ → Planned → Compiled
-withRow bytes p = record { number = p .number; at = p .at; row = cond (eqb (p .number) 0) bytes (six []); plan = p .plan }
+withRow bytes p = record {
+  number = p .number;
+  at = p .at;
+  row = cond (eqb (p .number) 0) bytes (six []);
+  plan = p .plan;
+}
 
 unfoldable pub compiled : ℕ → List ℕ → ℕ → Compiled
 compiled operators table row =

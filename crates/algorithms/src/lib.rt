@@ -1,5 +1,9 @@
 // Rows of opcodes compiled to plans, after `algorithms.rs`: what each operator reads and writes, which operators one
-// renderer takes together, and which rows are refused. Each entry promises the definition's answer, for refused rows too.
+// renderer takes together, and which rows are refused. Each entry promises the definition's answer, for refused rows
+// too. A row has a byte for each operator, in the order in which they are rendered. An operator writes to one of four
+// buffers, the output or a scratch buffer, and is modulated by what an earlier one left in such a buffer, or by
+// feedback. A renderer is a loop made for one shape of call; the Rust looks its renderers up in a table, here a few
+// tests decide.
 ghost use mathlib.Core.Path.{_≡_};
 ghost use mathlib.Core.Bool.{true, false, not, _&&_, _||_};
 ghost use mathlib.Core.List.{[], _∷_};
@@ -7,11 +11,12 @@ ghost use Prim.Native.Nat.{_+_, _≤_, _<_};
 ghost use lib.ListN.{length, getD, take};
 ghost use Rattle.algorithms.specs.Opcode.{destination, adding, source, flagged, modulating};
 ghost use Rattle.algorithms.specs.Chain.{rowFrom, Within, unmet, grown, chained, callLength, rendered};
-ghost use Rattle.algorithms.specs.Plan.{noCall, noPlan, callOf, reading, unready, planFrom, counted, planned, refusal, sameCall, samePlan, isPlanOf, firstCalls};
+ghost use Rattle.algorithms.specs.Plan.{noCall, noPlan, callOf, reading, unready, planFrom, counted, planned};
+ghost use Rattle.algorithms.specs.Plan.{refusal, sameCall, samePlan, isPlanOf, firstCalls};
 ghost use Rattle.algorithms.specs.Table.{six, tabled, rowOf, withRow, compiled};
 
-// One call of a plan: n operators from `first` on, their input and output, and whether they add to the output or set it.
-// The input is the source: 0 none, 1 and 2 a buffer, 3 feedback. A feedback call's origin is its last operator.
+// One call of a plan: n operators from `first` on, their input and output, and whether they add to the output or set
+// it. The input is the source: 0 none, 1 and 2 a buffer, 3 feedback. A feedback call's origin is its last operator.
 pub struct Call {
     pub first: u8,
     pub n: u8,
@@ -76,7 +81,8 @@ pub fn is_modulator(opcode: u8) -> bool
     destination_of(opcode) != 0
 }
 
-// Whether a chain goes on from an operator to the next.
+// Whether a chain goes on from an operator to the next: what it writes is what the next is modulated by, and it sets
+// it.
 fn grows(from: u8, to: u8) -> bool
     ensures { λ r. ⌜ r ≡ not (unmet from (to ∷ []) || adding from) ⌝ }
 {
@@ -102,8 +108,9 @@ fn grow(operators: usize, row: &[u8; 6], first: usize) -> usize
     last + 1 - first
 }
 
-// The same after the reuse rule: if the same modulation is reused by the operator behind it (algorithms 19 to 25), the
-// chain is discarded.
+// The same after the reuse rule. A chain rendered as one keeps what passes between its operators to itself; where the
+// operator behind the chain is modulated by the first one's buffer too (algorithms 19 to 25 have one modulator for
+// several), that must be left there, so the chain shrinks to its first operator.
 fn chain(operators: usize, row: &[u8; 6], first: usize) -> usize
     requires { ⌜ Within operators first (now row) ⌝ }
     ensures { λ r. ⌜ r ≡ chained (rowFrom operators first (now (row .entry))) ⌝ }
@@ -118,8 +125,8 @@ fn chain(operators: usize, row: &[u8; 6], first: usize) -> usize
     n
 }
 
-// The same again after a look for a renderer: only a feedback chain of six operators can have one, and it is not grown
-// for any other.
+// The same again after a look for a renderer. The only ones for several operators are those of algorithms 4 and 6,
+// whose feedback goes from the last of a chain to its first: no other chain is grown at all.
 fn call_length(operators: usize, row: &[u8; 6], first: usize) -> usize
     requires { ⌜ Within operators first (now row) ⌝ }
     ensures { λ r. ⌜ r ≡ callLength operators (rowFrom operators first (now (row .entry))) ⌝ }
@@ -143,8 +150,8 @@ fn call_length(operators: usize, row: &[u8; 6], first: usize) -> usize
     1
 }
 
-// The operators of the call's renderer, or 0: one operator has none if it wants feedback and is no origin itself.
-fn get_renderer(operators: usize, row: &[u8; 6], first: usize) -> usize
+// The length of the call that has a renderer, or 0: one operator has none if it wants feedback and is no origin itself.
+fn rendered_length(operators: usize, row: &[u8; 6], first: usize) -> usize
     requires { ⌜ Within operators first (now row) ⌝ }
     ensures { λ r. ⌜ r ≡ rendered operators (rowFrom operators first (now (row .entry))) ⌝ }
 {
@@ -254,7 +261,7 @@ fn compile_calls(operators: usize, row: &[u8; 6]) -> Planned
     let mut count = 0usize;
     let mut first = 0usize;
     while first < operators {
-        let n = get_renderer(operators, row, first);
+        let n = rendered_length(operators, row, first);
         if n == 0 {
             return refused(3, first as u8);
         }
@@ -366,7 +373,7 @@ pub fn is_plan_of(operators: usize, row: [u8; 6], plan: Plan) -> bool
     let mut k = 0usize;
     let mut first = 0usize;
     while first < operators {
-        let n = get_renderer(operators, &row, first);
+        let n = rendered_length(operators, &row, first);
         if n == 0 {
             return false;
         }
@@ -457,8 +464,8 @@ fn with_row(bytes: [u8; 6], p: Planned) -> Compiled
     }
 }
 
-// A row of a lent table: 2 for operators other than 4 or 6, a table that is empty, not of whole rows or above 32 of them,
-// and a row number past it; then 3 and 4.
+// A row of a lent table: 2 for operators other than 4 or 6, a table that is empty, not of whole rows or above 32 of
+// them, and a row number past it; then 3 and 4.
 pub fn compile(operators: usize, table: &[u8], row: usize) -> Compiled
     ensures { λ r. ⌜ r ≡ compiled operators (now (table .entry)) row ⌝ }
 {

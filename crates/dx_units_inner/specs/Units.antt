@@ -1,5 +1,5 @@
--- The conversions of dx_units.rs, in its order, and the step for a frequency: one rounding per written operation, in the
--- Rust's order. Definitions only, all to be believed. A step of level is an eighth of an octave of amplitude, 0.75 dB.
+-- The conversions of dx_units.rs, in its order, and the step for a frequency: one rounding per written operation, in
+-- the Rust's order. Definitions only, all to be believed. A step of level is 0.75 dB, an eighth of an octave.
 use mathlib.Core.Bool.{not, _&&_, _||_, cond}
 use mathlib.Core.List.{List}
 use Prim.Native.Nat.{ℕ, _+_, _-_, _*_, _/_, _%_, _^_, max}
@@ -69,16 +69,16 @@ delaySteps delay =
     let d = (99 + 2 ^ 8 - delay) % 2 ^ 8 in
     shifted32 (16 + d % 16) (1 + d / 16)
 
--- an LFO's delay, 0 to 99, as two increments in Hz, the delay's and the fade's: the second has the steps' bits from 7 to
--- 15, 128 at least; both are over at once where the delay is 0
+-- an LFO's delay, 0 to 99, as two increments in Hz, the delay's and the fade's: the second has the steps' bits from 7
+-- to 15, 128 at least; both are over at once where the delay is 0
 unfoldable pub lfoDelay : ℕ → Increments
 lfoDelay delay =
     let d = delaySteps delay in
     cond (eqb delay 0) (record { first = decimal 100000 0; second = decimal 100000 0 })
     (record { first = asFloat d ⊗ minLfoFrequency; second = asFloat (max 128 (d / 128 % 512 * 128)) ⊗ minLfoFrequency })
 
--- a velocity, 0 to 1, as the steps that each unit of sensitivity changes a level by: 16 times its cube root, less 0.918,
--- by straight lines between the table's entries; none at about 0.77
+-- a velocity, 0 to 1, as the steps that each unit of sensitivity changes a level by: 16 times its cube root, less
+-- 0.918, by straight lines between the table's entries; none at about 0.77
 unfoldable pub normalizedVelocity : Float → Float
 normalizedVelocity velocity =
     decimal 16 0 ⊗ (interpolated lutCubeRoot (minimum velocity (decimal 99 2)) (decimal 16 0) ⊖ decimal 918 3)
@@ -103,8 +103,8 @@ bent t curve =
     let u = minimum (t ⊗ decimal 10467 6) (decimal 1 0) in
     cond (eqb curve 1 || eqb curve 2) (u ⊗ u ⊗ u ⊗ decimal 96 0) t
 
--- the level's change in steps at a distance from the break point, by the curve and the depth of its side: curves 0 and 1
--- go down, 2 and 3 up
+-- the level's change in steps at a distance from the break point, by the curve and the depth of its side: curves 0 and
+-- 1 go down, 2 and 3 up
 unfoldable pub sideScaling : Float → ℕ → ℕ → Float
 sideScaling x curve depth =
     let t = bent (magnitude x) curve in
@@ -138,7 +138,7 @@ frequencyRatio high low mode coarse fine detune =
     let ratio = ratioOf high low base ⊗ fineFactor mode fine in
     cond (eqb mode 0) (Note ratio) (Hertz ratio)
 
--- the step of a phase of 32 bits for a frequency in turns a sample: at most a half, which a NaN counts as, times 2 ^ 32,
--- as u32
+-- the step of a phase of 32 bits for a frequency in turns a sample: at most a half, which a NaN counts as, times
+-- 2 ^ 32, as u32
 unfoldable pub stepFor : Float → ℕ
 stepFor frequency = toUnsigned 32 (minimum frequency (decimal 5 1) ⊗ decimal 4294967296 0)

@@ -115,8 +115,8 @@ pub fn lfo_delay(delay: u8) -> Increments
     }
 }
 
-// An LFO's delay in steps of 0.005865 Hz, an exponential in straight pieces that falls with the delay: 16 numbers double
-// them. 99 - delay as a byte, its lower half and 16 for a mantissa, its upper half for the shift.
+// An LFO's delay in steps of 0.005865 Hz, an exponential in straight pieces that falls with the delay: 16 numbers
+// double them. 99 - delay as a byte, its lower half and 16 for a mantissa, its upper half for the shift.
 fn delay_steps(delay: u8) -> u32
     ensures { λ r. ⌜ r ≡ delaySteps delay ⌝ }
 {
@@ -232,8 +232,8 @@ pub fn frequency_ratio(
     Ratio::Hertz(ratio)
 }
 
-// The semitones without the detune: in mode 0 the coarse number's, else hundredths of a decade above 1 Hz, of which each
-// is 12 log2(10) / 100 semitones: powers of ten by the coarse number's lowest two bits, 1 Hz to 9.8 kHz in all.
+// The semitones without the detune: in mode 0 the coarse number's, else hundredths of a decade above 1 Hz, of which
+// each is 12 log2(10) / 100 semitones: powers of ten by the coarse number's lowest two bits, 1 Hz to 9.8 kHz in all.
 fn base_semitones(mode: u8, coarse: u8, fine: u8) -> f32
     requires { ⌜ coarse ≤ 31 ⌝ }
     ensures { λ r. ⌜ r ≡ baseSemitones mode coarse fine ⌝ }

@@ -1,6 +1,6 @@
 -- Facts of every field of a table, and the limits as such a fact. Assumes nothing.
-use mathlib.Core.Path.{_≡_, refl, sym, ap, ap₂}
-use mathlib.Core.Bool.{Bool, true, false, _&&_, true≢false}
+use mathlib.Core.Path.{_≡_, refl, ap, ap₂}
+use mathlib.Core.Bool.{Bool, true, _&&_, and-eq-true-iff}
 use mathlib.Core.List.{List, [], _∷_, map}
 use Prim.Native.Nat.{ℕ, _≤_}
 use borrow.Author.Tests.{leb-true, le-leb}
@@ -18,15 +18,11 @@ abbrev pub Each : {N : Type 0} → (N → Type 0) → List N → Type 0
 Each P [] = Unit {0}
 Each P (n ∷ ns) = P n × Each P ns
 
-pub and-both : (a b : Bool) → a && b ≡ true → (a ≡ true) × (b ≡ true)
-and-both true b e = (refl, e)
-and-both false b e = absurd (true≢false (sym e))
-
 module _ {N : Type 0} where
   pub each : (t : N → Bool) (ns : List N) → every t ns ≡ true → Each (λ n. t n ≡ true) ns
   unfolding every
   each t [] e = tt
-  each t (n ∷ ns) e = let h = and-both (t n) (every t ns) e in (h .0, each t ns (h .1))
+  each t (n ∷ ns) e = let h = and-eq-true-iff (t n) (every t ns) .0 e in (h .0, each t ns (h .1))
 
   pub both-each : {P Q R : N → Type 0} → ((n : N) → P n → Q n → R n) → (ns : List N) → Each P ns → Each Q ns → Each R ns
   both-each f [] ps qs = tt
@@ -45,7 +41,7 @@ module _ {N : Type 0} (field : N → Field) (g : N → ℕ) where
   unfolding within
   each-within [] e = tt
   each-within (n ∷ ns) e =
-      let p = and-both (leb (g n) (field n .largest)) (within field g ns) e in
+      let p = and-eq-true-iff (leb (g n) (field n .largest)) (within field g ns) .0 e in
       (leb-true (g n) (field n .largest) (p .0), each-within ns (p .1))
 
   pub within-each : (ns : List N) → Each (λ n. g n ≤ field n .largest) ns → within field g ns ≡ true

@@ -1,5 +1,5 @@
--- The structs as a form of the table: the number that a name names in each, and the struct whose numbers are given by name.
--- Assumes nothing.
+-- The structs as a form of the table: the number that a name names in each, and the struct whose numbers are given by
+-- name. To be believed.
 use mathlib.Core.Path.{_≡_}
 use mathlib.Core.List.{List, [], _∷_}
 use Prim.Native.Nat.{ℕ, _<_}
@@ -9,7 +9,13 @@ use Rattle.patch.specs.declared.KeyboardScaling.{KeyboardScaling}
 use Rattle.patch.specs.declared.Operator.{Operator}
 use Rattle.patch.specs.declared.ModulationParameters.{ModulationParameters}
 use Rattle.patch.specs.declared.Patch.{Patch}
-use Rattle.patch.specs.Layout.{EnvelopeName, Rate, Level, ScalingName, BreakPoint, LeftDepth, RightDepth, LeftCurve, RightCurve, OperatorName, Stage, Scaling, RateScaling, Detune, AmplitudeSensitivity, VelocitySensitivity, OutputLevel, Mode, Coarse, Fine, LfoName, LfoRate, LfoDelay, PitchDepth, AmplitudeDepth, LfoReset, Waveform, PitchSensitivity, Place, Of, Pitch, Algorithm, Feedback, Reset, Lfo, Transpose, Letter}
+use Rattle.patch.specs.Layout.{EnvelopeName, Rate, Level}
+use Rattle.patch.specs.Layout.{ScalingName, BreakPoint, LeftDepth, RightDepth, LeftCurve, RightCurve}
+use Rattle.patch.specs.Layout.{OperatorName, Stage, Scaling, RateScaling, Detune, AmplitudeSensitivity}
+use Rattle.patch.specs.Layout.{VelocitySensitivity, OutputLevel, Mode, Coarse, Fine}
+use Rattle.patch.specs.Layout.{LfoName, LfoRate, LfoDelay, PitchDepth, AmplitudeDepth, LfoReset, Waveform}
+use Rattle.patch.specs.Layout.{PitchSensitivity}
+use Rattle.patch.specs.Layout.{Place, Of, Pitch, Algorithm, Feedback, Reset, Lfo, Transpose, Letter}
 
 unfoldable pub envelopeWith : (EnvelopeName → ℕ) → Envelope
 envelopeWith g = record {
@@ -53,13 +59,15 @@ modulationsWith g = record {
 
 unfoldable pub nameWith : (Place → ℕ) → List ℕ
 nameWith g =
-    g (Letter 0) ∷ g (Letter 1) ∷ g (Letter 2) ∷ g (Letter 3) ∷ g (Letter 4) ∷ g (Letter 5) ∷ g (Letter 6) ∷ g (Letter 7) ∷ g (Letter 8)
-    ∷ g (Letter 9) ∷ []
+    g (Letter 0) ∷ g (Letter 1) ∷ g (Letter 2) ∷ g (Letter 3) ∷ g (Letter 4)
+    ∷ g (Letter 5) ∷ g (Letter 6) ∷ g (Letter 7) ∷ g (Letter 8) ∷ g (Letter 9) ∷ []
 
 -- the patch with these numbers and this number of active operators
 unfoldable pub patchWith : (Place → ℕ) → ℕ → Patch
 patchWith g active = record {
-  op = operatorWith (λ n. g (Of 0 n)) ∷ operatorWith (λ n. g (Of 1 n)) ∷ operatorWith (λ n. g (Of 2 n)) ∷ operatorWith (λ n. g (Of 3 n)) ∷ operatorWith (λ n. g (Of 4 n)) ∷ operatorWith (λ n. g (Of 5 n)) ∷ [];
+  op =
+      operatorWith (λ n. g (Of 0 n)) ∷ operatorWith (λ n. g (Of 1 n)) ∷ operatorWith (λ n. g (Of 2 n))
+      ∷ operatorWith (λ n. g (Of 3 n)) ∷ operatorWith (λ n. g (Of 4 n)) ∷ operatorWith (λ n. g (Of 5 n)) ∷ [];
   «pitch_envelope» = envelopeWith (λ n. g (Pitch n));
   algorithm = g Algorithm;
   feedback = g Feedback;

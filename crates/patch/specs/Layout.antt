@@ -1,5 +1,5 @@
--- Yamaha's packed patch as one table, each row a field's byte, lowest bit, width and largest number, and the 155 fields in layout order.
--- What unpacking, packing and the limits mean is derived from it, in Packed. Assumes nothing.
+-- Yamaha's packed patch as one table, each row a field's byte, lowest bit, width and largest number, and the 155 fields
+-- in layout order. To be believed: what unpacking, packing and the limits mean is derived from it, in Packed.
 use mathlib.Core.List.{List, [], _∷_, _++_, map}
 use Prim.Native.Nat.{ℕ, _+_, _*_}
 
@@ -17,7 +17,8 @@ row byte bit width largest = record { byte = byte; bit = bit; width = width; lar
 unfoldable pub later : ℕ → Field → Field
 later base f = row (base + f .byte) (f .bit) (f .width) (f .largest)
 
--- The names of the fields, by the structs that hold them. A rate or a level has its stage, 0 to 3, a letter its place, 0 to 9.
+-- The names of the fields, by the structs that hold them. A rate or a level has its stage, 0 to 3, a letter its place,
+-- 0 to 9.
 pub data EnvelopeName : Type 0 where
   Rate : ℕ → EnvelopeName
   Level : ℕ → EnvelopeName
@@ -88,8 +89,8 @@ operatorField Mode = row 15 0 1 1
 operatorField Coarse = row 15 1 5 31
 operatorField Fine = row 16 0 7 99
 
--- The LFO, for a largest pitch sensitivity: 15 in a patch, 7 where the LFO is set or the sensitivity converted. Yamaha's bytes stop at 127, so
--- three bits would do; the Rust shifts byte 116 unmasked, and decides: four bits.
+-- The LFO, for a largest pitch sensitivity: 15 in a patch, 7 where the LFO is set or the sensitivity converted.
+-- Yamaha's bytes stop at 127, so three bits would do; the Rust shifts byte 116 unmasked, and decides: four bits.
 unfoldable pub lfoField : ℕ → LfoName → Field
 lfoField limit LfoRate = row 112 0 7 99
 lfoField limit LfoDelay = row 113 0 7 99
@@ -135,7 +136,9 @@ letters = 0 ∷ 1 ∷ 2 ∷ 3 ∷ 4 ∷ 5 ∷ 6 ∷ 7 ∷ 8 ∷ 9 ∷ []
 
 -- the 29 fields that the operators share
 unfoldable pub sharedNames : List Place
-sharedNames = map Pitch envelopeNames ++ (Algorithm ∷ Feedback ∷ Reset ∷ (map Lfo lfoNames ++ (Transpose ∷ map Letter letters)))
+sharedNames =
+    map Pitch envelopeNames
+    ++ (Algorithm ∷ Feedback ∷ Reset ∷ (map Lfo lfoNames ++ (Transpose ∷ map Letter letters)))
 
 -- all 155
 unfoldable pub layout : List Place

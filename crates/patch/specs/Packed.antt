@@ -1,5 +1,5 @@
--- What unpacking and the limits of number 6 mean, for any table, and the entries over the patch's. The entries' contracts cite these.
--- Assumes nothing.
+-- What unpacking and the limits of number 6 mean, for any table, and the entries over the patch's. To be believed; the
+-- entries' contracts cite these.
 use mathlib.Core.Bool.{Bool, true, cond, _&&_}
 use mathlib.Core.List.{List, [], _∷_}
 use Prim.Native.Nat.{ℕ, _/_, _%_, _^_, min}
@@ -10,7 +10,8 @@ use Rattle.patch.specs.declared.Operator.{Operator}
 use Rattle.patch.specs.declared.ModulationParameters.{ModulationParameters}
 use Rattle.patch.specs.declared.Patch.{Patch}
 use Rattle.patch.specs.declared.Unpacked.{Unpacked}
-use Rattle.patch.specs.Layout.{Field, envelopeField, scalingField, operatorField, lfoField, fieldOf, stages, scalingNames, operatorNames, lfoNames, letters, layout, Rate, Letter}
+use Rattle.patch.specs.Layout.{Field, envelopeField, scalingField, operatorField, lfoField, fieldOf}
+use Rattle.patch.specs.Layout.{stages, scalingNames, operatorNames, lfoNames, letters, layout, Rate, Letter}
 use Rattle.patch.specs.Form.{scalingNumber, operatorNumber, lfoNumber, numberOf, operatorAt, patchWith}
 
 -- a field's bits in the bytes s: its byte from its lowest bit on, as wide as it is

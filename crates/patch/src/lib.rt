@@ -1,5 +1,5 @@
-// A DX7 patch from its 128 packed bytes, after patch.rs. Each entry is what specs/Packed derives from the one table of specs/Layout,
-// for accepted and refused input alike. Number given back: 1 fewer than 128 bytes.
+// A DX7 patch from its 128 packed bytes, after patch.rs. Each entry is what specs/Packed derives from the one table of
+// specs/Layout, for accepted and refused input alike. Number given back: 1 fewer than 128 bytes.
 ghost use mathlib.Core.Path.{_≡_};
 ghost use Prim.Native.Nat.{_+_, _≤_, _<_, _/_, _%_, min};
 ghost use lib.ListN.{length, getD};
@@ -121,7 +121,8 @@ impl Patch {
     }
 }
 
-// A field of a byte: its bits from the lowest on (`unit`, a power of two), as many as its width (`size` numbers), at most `largest`.
+// A field of a byte: its bits from the lowest on (`unit`, a power of two), as many as its width (`size` numbers), at
+// most `largest`.
 fn field(b: u8, unit: u8, size: u8, largest: u8) -> u8
     requires { ⌜ (0 < unit) × (0 < size) ⌝ }
     ensures { λ r. ⌜ r ≡ min (b / unit % size) largest ⌝ }
@@ -153,8 +154,8 @@ fn unpack_scaling(s: &[u8], at: usize) -> KeyboardScaling
     }
 }
 
-// An operator with the envelope whose first byte stands at `at`. Each number is stored by itself: an envelope that is handed on
-// as a value would be put together in a register, bit by bit, where eight bytes can be clamped as one.
+// An operator with the envelope whose first byte stands at `at`. Each number is stored by itself: an envelope that is
+// handed on as a value would be put together in a register, bit by bit, where eight bytes can be clamped as one.
 fn unpack_stages(s: &[u8], at: usize) -> Operator
     requires { ⌜ at + 8 ≤ length (now s) ⌝ }
     ensures { λ r. ⌜ r .envelope ≡ envelopeWith (λ n. readIn (now (s .entry)) (later at (envelopeField n))) ⌝ }
@@ -195,6 +196,8 @@ fn unpack_operator(s: &[u8], at: usize) -> Operator
     o
 }
 
+// The LFO's numbers. The pitch sensitivity is all that byte 116 has above its waveform, four bits and no mask, as in
+// the Rust: a byte above 127, which Yamaha does not write, gives 8 to 15. A patch may hold these; an LFO refuses them.
 fn unpack_modulations(s: &[u8]) -> ModulationParameters
     requires { ⌜ 128 ≤ length (now s) ⌝ }
     ensures { λ r. ⌜ r ≡ modulationsWith (λ n. readIn (now (s .entry)) (lfoField 15 n)) ⌝ }

@@ -1,4 +1,4 @@
--- Ranges of numbers that entries accept. Definitions only.
+-- Ranges of numbers that entries accept. Definitions only, all to be believed.
 use mathlib.Core.Bool.{Bool, _&&_}
 use lib.Ieee.{Float, le}
 use Rattle.numbers.specs.F32.{decimal}

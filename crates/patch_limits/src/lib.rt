@@ -1,15 +1,17 @@
-// What is in reach. The limits of a patch's fields, which a patch that was not unpacked may break: each of these functions is what `patch`'s
-// specs/Packed derives from the one table of its specs/Layout. Number given back: 6 a field above its largest number. And the ranges of floats.
+// What is in reach. The limits of a patch's fields, which a patch that was not unpacked may break: each of these
+// functions is what `patch`'s specs/Packed derives from the one table of its specs/Layout. Number given back: 6 a field
+// above its largest number. And the ranges of floats.
 use patch::KeyboardScaling;
 use patch::ModulationParameters;
 use patch::Operator;
 use patch::Patch;
 ghost use mathlib.Core.Path.{_≡_};
 ghost use Rattle.patch_limits.specs.Ranges.{between, sampleRateFits};
-ghost use Rattle.patch.specs.Packed.{stagesFit, scalingFits, operatorFits, operatorsFit, modulationsFit, nameFits, patchFits, checkOf};
+ghost use Rattle.patch.specs.Packed.{stagesFit, scalingFits, operatorFits, operatorsFit, modulationsFit};
+ghost use Rattle.patch.specs.Packed.{nameFits, patchFits, checkOf};
 
-// Whether the four rates or levels of an envelope are at most 99. They are lent: an array of four bytes that is handed over as a value comes
-// in a register, to be taken apart bit by bit, where sixteen bytes can be tested as one.
+// Whether the four rates or levels of an envelope are at most 99. They are lent: an array of four bytes that is handed
+// over as a value comes in a register, to be taken apart bit by bit, where sixteen bytes can be tested as one.
 pub fn stages_fit(x: &[u8; 4]) -> bool
     ensures { λ r. ⌜ r ≡ stagesFit (now (x .entry)) ⌝ }
 {

@@ -1,6 +1,6 @@
 -- The packed bytes, block by block: what the stores leave is what the table says. Assumes nothing.
 use mathlib.Core.Path.{_≡_, refl, sym, _∙_, ap}
-use mathlib.Core.Bool.{true}
+use mathlib.Core.Bool.{true, and-eq-true-iff}
 use mathlib.Core.List.{List, [], _∷_, _++_, map}
 use Prim.Native.Nat.{ℕ, zero, suc, _+_, _*_, _<_, _≤_}
 use native.Mathlib.Nat.{add-zero, mul-one, add-assoc}
@@ -15,7 +15,7 @@ use Rattle.patch.specs.Layout.{Place, Of, later, envelopeField, scalingField, o
 use Rattle.patch.specs.Form.{envelopeNumber, scalingNumber, operatorNumber, lfoNumber, operatorAt, numberOf}
 use Rattle.patch.specs.Packed.{within, operatorFits, patchFits}
 use Rattle.patch_packer.specs.Packing.{bytesOf, operatorBytes, sharedBytes, packed}
-use Rattle.patch.proofs.Each.{every, and-both, each-within}
+use Rattle.patch.proofs.Each.{every, each-within}
 use Rattle.patch_limits.proofs.Within.{within-append}
 use Rattle.patch_packer.proofs.Tables.{sumOf, sumsOf, whole-bytes, bytes-append, bytes-later}
 
@@ -25,12 +25,12 @@ module _ (p : Patch) (fits : patchFits p ≡ true) where
   W ns = within fieldOf (numberOf p) ns ≡ true
 
   split : (xs ys : List Place) → W (xs ++ ys) → W xs × W ys
-  split xs ys e = and-both (within fieldOf (numberOf p) xs) (within fieldOf (numberOf p) ys) (sym (within-append fieldOf (numberOf p) xs ys) ∙ e)
+  split xs ys e = and-eq-true-iff (within fieldOf (numberOf p) xs) (within fieldOf (numberOf p) ys) .0 (sym (within-append fieldOf (numberOf p) xs ys) ∙ e)
 
   by-parts : W (map (Of 0) operatorNames) × W (map (Of 1) operatorNames) × W (map (Of 2) operatorNames) × W (map (Of 3) operatorNames) × W (map (Of 4) operatorNames) × W (map (Of 5) operatorNames) × W sharedNames
   unfolding patchFits layout
   by-parts =
-      let all = and-both (within fieldOf (numberOf p) layout) (eqb (p .«active_operators») 63) fits in
+      let all = and-eq-true-iff (within fieldOf (numberOf p) layout) (eqb (p .«active_operators») 63) .0 fits in
       let a = split (map (Of 0) operatorNames) _ (all .0) in
       let b = split (map (Of 1) operatorNames) _ (a .1) in
       let c = split (map (Of 2) operatorNames) _ (b .1) in

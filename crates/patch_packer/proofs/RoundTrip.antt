@@ -1,7 +1,7 @@
 -- There and back: unpacking what was packed gives the patch, and packing what was unpacked gives the bytes
 -- exactly if they were clean. Assumes nothing.
 use mathlib.Core.Path.{_≡_, refl, sym, _∙_, ap, ap₂}
-use mathlib.Core.Bool.{true}
+use mathlib.Core.Bool.{true, and-eq-true-iff}
 use mathlib.Core.List.{List, [], _∷_}
 use Prim.Native.Nat.{ℕ, zero, suc, _/_, _%_, _^_, _<_, _≤_}
 use native.Mathlib.Nat.{zero-add}
@@ -20,7 +20,7 @@ use Rattle.patch.specs.Packed.{bitsIn, readIn, within, unpacked, patchFits, unp
 use Rattle.patch_packer.specs.Packing.{byteOf, packed, packOf, Clean}
 use Rattle.patch.proofs.Positions.{patch-with}
 use Rattle.patch.proofs.Reading.{numbers-read, numbers-low, unpacked-fits}
-use Rattle.patch.proofs.Each.{every, Each, and-both, each, both-each, map-each, each-within, within-each}
+use Rattle.patch.proofs.Each.{every, Each, each, both-each, map-each, each-within, within-each}
 use Rattle.patch_packer.proofs.Tables.{length-bytes, getD-bytes, fits-width, same-byte, above, stacked, Back, read-back}
 
 -- what the table has to be: fields stacked in their bytes, within 128 bytes, their largest numbers within their widths
@@ -100,7 +100,7 @@ module _ (p : Patch) (low : Each (λ n. numberOf p n ≤ fieldOf n .largest) lay
 pub unpacked-of-packed : (p : Patch) → Shaped p → patchFits p ≡ true → unpacked (packed p) ≡ p
 unfolding unpacked patchFits
 unpacked-of-packed p h e =
-    let b = and-both (within fieldOf (numberOf p) layout) (eqb (p .«active_operators») 63) e in
+    let b = and-eq-true-iff (within fieldOf (numberOf p) layout) (eqb (p .«active_operators») 63) .0 e in
     patch-with (λ n. readIn (packed p) (fieldOf n)) (numberOf p) 63 (map-each (λ n. readIn (packed p) (fieldOf n)) (numberOf p) layout (packed-numbers p (each-within fieldOf (numberOf p) layout (b .0))))
     ∙ ap (patchWith (numberOf p)) (sym (eqb-true (p .«active_operators») 63 (b .1)))
     ∙ patch-numbers p h

@@ -1,6 +1,6 @@
 -- Laws of any table of fields: what its bytes are, block by block, and that each field is read back from them. Assumes nothing.
 use mathlib.Core.Path.{_≡_, refl, sym, _∙_, ap, ap₂}
-use mathlib.Core.Bool.{Bool, true, false, cond, _&&_, true≢false}
+use mathlib.Core.Bool.{Bool, true, false, cond, _&&_, true≢false, and-eq-true-iff}
 use mathlib.Core.List.{List, [], _∷_, _++_, map}
 use Prim.Native.Nat.{ℕ, zero, suc, _+_, _-_, _*_, _/_, _%_, _^_, _<_, _≤_}
 use native.Mathlib.Nat.{add-zero, zero-add, suc-add, add-suc, zero-mul, add-assoc, add-comm, add-mul, mul-assoc, mod-eq-of-lt, mod-lt, mod-mod, mul-div-cancel, add-mul-mod-self-right}
@@ -11,7 +11,7 @@ use lib.ListN.{length, getD}
 use lib.Pow.{pow-pos, pow-add, shl-lt, shr-shr, high}
 use Rattle.patch.specs.Layout.{Field, later}
 use Rattle.patch.specs.Packed.{within}
-use Rattle.patch.proofs.Each.{every, Each, and-both, each, both-each, each-within}
+use Rattle.patch.proofs.Each.{every, Each, each, both-each, each-within}
 use Rattle.patch_packer.specs.Packing.{placed, byteOf, bytesOf}
 
 module _ {N : Type 0} (field : N → Field) (g : N → ℕ) where
@@ -41,7 +41,7 @@ module _ {N : Type 0} (field : N → Field) (g : N → ℕ) where
   unfolding byteOf every
   byte-none t k e [] h = refl
   byte-none t k e (n ∷ ns) h =
-      let p = and-both (t (field n .byte)) (every (λ m. t (field m .byte)) ns) h in
+      let p = and-eq-true-iff (t (field n .byte)) (every (λ m. t (field m .byte)) ns) .0 h in
       at (eqb (field n .byte) k) refl (p .0) (byte-none t k e ns (p .1))
     where
       at : (b : Bool) → eqb (field n .byte) k ≡ b → t (field n .byte) ≡ true → byteOf field g ns k ≡ 0
@@ -169,7 +169,7 @@ module _ {N : Type 0} (field : N → Field) (g : N → ℕ) where
   unfolding every above byteOf placed
   multiple f [] e = (0, sym (zero-mul (2 ^ (f .width + f .bit))))
   multiple f (n ∷ ns) e =
-      let p = and-both (above f (field n)) (every (λ m. above f (field m)) ns) e in
+      let p = and-eq-true-iff (above f (field n)) (every (λ m. above f (field m)) ns) .0 e in
       at (eqb (field n .byte) (f .byte)) (p .0) (multiple f ns (p .1))
     where
       at : (b : Bool) → cond b (leb (f .width + f .bit) (field n .bit)) true ≡ true → Multiple (2 ^ (f .width + f .bit)) (byteOf field g ns (f .byte))
@@ -205,6 +205,6 @@ module _ {N : Type 0} (field : N → Field) (g : N → ℕ) where
   unfolding stacked
   read-back [] e = tt
   read-back (n ∷ ns) e =
-      let p = and-both (every (λ m. above (field n) (field m)) ns) (stacked field ns) e in
+      let p = and-eq-true-iff (every (λ m. above (field n) (field m)) ns) (stacked field ns) .0 e in
       let m = multiple (field n) ns (p .0) in
       (first-back n ns m, both-each (other-back n ns m) ns (each (λ m. above (field n) (field m)) ns (p .0)) (read-back ns (p .1)))

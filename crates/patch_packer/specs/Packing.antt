@@ -1,4 +1,5 @@
--- What packing means, for any table, and the packer over the patch's. The entry's contract cites these. Assumes nothing.
+-- What packing means, for any table, and the packer over the patch's. To be believed, but for the bytes in two parts;
+-- the entry's contract cites these.
 use mathlib.Core.Path.{_≡_}
 use mathlib.Core.Bool.{true, cond}
 use mathlib.Core.List.{List, [], _∷_}
@@ -17,7 +18,8 @@ unfoldable pub placed : Field → ℕ → ℕ
 placed f x = x % 2 ^ f .width * 2 ^ f .bit
 
 module _ {N : Type 0} (field : N → Field) where
-  -- byte k of the fields ns with the numbers g: the sum of those that lie there, each at its bits; all other bits are clear
+  -- byte k of the fields ns with the numbers g: the sum of those that lie there, each at its bits; all other bits are
+  -- clear
   unfoldable pub byteOf : (N → ℕ) → List N → ℕ → ℕ
   byteOf g [] k = 0
   byteOf g (n ∷ ns) k = cond (eqb (field n .byte) k) (placed (field n) (g n) + byteOf g ns k) (byteOf g ns k)
@@ -31,7 +33,7 @@ module _ {N : Type 0} (field : N → Field) where
 unfoldable pub packed : Patch → List ℕ
 packed p = bytesOf fieldOf (numberOf p) layout 0 128
 
--- an operator's 17 bytes, and the 26 behind the operators
+-- the parts that the code writes: an operator's 17 bytes, and the 26 behind the operators
 unfoldable pub operatorBytes : Operator → List ℕ
 operatorBytes o = bytesOf operatorField (operatorNumber o) operatorNames 0 17
 
@@ -42,8 +44,8 @@ sharedBytes p = bytesOf fieldOf (numberOf p) sharedNames 102 26
 unfoldable pub packOf : Patch → Packed
 packOf p = cond (patchFits p) (record { number = 0; bytes = packed p }) (record { number = 6; bytes = replicate 128 0 })
 
--- bytes that a packer can have written: already clamped, every field's bits at most its largest number; and free of unused bits, each of the 128
--- the sum of its fields' bits and nothing else
+-- bytes that a packer can have written: already clamped, every field's bits at most its largest number; and free of
+-- unused bits, each of the 128 the sum of its fields' bits and nothing else
 pub record Clean (s : List ℕ) : Type 0 where
   pub clamped : within fieldOf (λ n. bitsIn s (fieldOf n)) layout ≡ true
   pub unused : (k : ℕ) → k < 128 → getD s k 0 ≡ byteOf fieldOf (λ n. bitsIn s (fieldOf n)) layout k

@@ -1,5 +1,6 @@
-// The packer: a patch to its 128 packed bytes. Added to what patch.rs has. What packing means is derived in specs/Packing from the one
-// table of `patch`'s specs/Layout. Number given back: 6 for a patch that `patch_limits::check` refuses.
+// The packer: a patch to its 128 packed bytes. Added to what patch.rs has. What packing means is derived in
+// specs/Packing from the one table of `patch`'s specs/Layout. Number given back: 6 for a patch that
+// `patch_limits::check` refuses.
 use patch::Operator;
 use patch::Patch;
 ghost use mathlib.Core.Path.{_≡_};

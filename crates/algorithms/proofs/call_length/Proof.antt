@@ -57,23 +57,21 @@ is-flagged-requires c κs = search needs
 returns-4 : tie.Need-returns-4
 returns-4 c =
     let at-if4 = c .before .before .before in
-    let at-is-adding = at-if4 .before in
-    let at-if3 = at-is-adding .before .before in
-    let ch = c .before .before .before .before .before .before .before in
+    let at-if3 = at-if4 .before .before .before in
+    let ch = at-if3 .before in
     let at = ch .before .before .before in
     chain-at _ _ _ (at .before .before .pre) _ _ (ch .before .if2 .left) (at .source-of .ensures)
-    (ch .before .before .if1 .left) (ch .chain .ensures) (at-if3 .if3 .left) _ (at-is-adding .is-adding .ensures)
+    (ch .before .before .if1 .left) (ch .chain .ensures) (at-if3 .if3 .left) _ (at-if4 .before .is-adding .ensures)
     (at-if4 .if4 .taken) _ (c .before .is-flagged .ensures) (c .if5 .taken)
 
 returns-5 : tie.Need-returns-5
 returns-5 c =
     let at-if4 = c .before .before .before in
-    let at-is-adding = at-if4 .before in
-    let at-if3 = at-is-adding .before .before in
-    let ch = c .before .before .before .before .before .before .before in
+    let at-if3 = at-if4 .before .before .before in
+    let ch = at-if3 .before in
     let at = ch .before .before .before in
     unflagged-at _ _ _ (at .before .before .pre) _ _ (ch .before .if2 .left) (at .source-of .ensures)
-    (ch .before .before .if1 .left) (ch .chain .ensures) (at-if3 .if3 .left) _ (at-is-adding .is-adding .ensures)
+    (ch .before .before .if1 .left) (ch .chain .ensures) (at-if3 .if3 .left) _ (at-if4 .before .is-adding .ensures)
     (at-if4 .if4 .taken) _ (c .before .is-flagged .ensures) (c .if5 .left)
 
 returns-6 : tie.Need-returns-6

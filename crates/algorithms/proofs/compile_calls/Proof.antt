@@ -58,8 +58,8 @@ loop-holds c = record {
   rest = rw (c .no-call .ensures);
 }
 
-get-renderer-requires : tie.Need-get-renderer-requires Inv-loop μ-loop
-get-renderer-requires c κs = within c
+rendered-length-requires : tie.Need-rendered-length-requires Inv-loop μ-loop
+rendered-length-requires c κs = within c
 
 cast-refused : tie.Need-cast-refused Inv-loop μ-loop
 cast-refused c = omega arith
@@ -70,10 +70,10 @@ refused-requires c κs = search needs
 returns : tie.Need-returns Inv-loop μ-loop
 returns c =
     let at = c .before .before .before in
-    c .refused .ensures ∙ lacking-at _ _ _ (within at) (record { count = at .before .loop .count; calls = at .before .loop .calls }) _ (c .before .before .get-renderer .ensures) (c .before .if1 .taken) ∙ at .before .loop .inv .rest
+    c .refused .ensures ∙ lacking-at _ _ _ (within at) (record { count = at .before .loop .count; calls = at .before .loop .calls }) _ (c .before .before .rendered-length .ensures) (c .before .if1 .taken) ∙ at .before .loop .inv .rest
 
 call-of-requires : tie.Need-call-of-requires Inv-loop μ-loop
-call-of-requires c κs = (within (c .before .before), omega arith, rendered-at _ _ _ (within (c .before .before)) _ (c .before .get-renderer .ensures))
+call-of-requires c κs = (within (c .before .before), omega arith, rendered-at _ _ _ (within (c .before .before)) _ (c .before .rendered-length .ensures))
 
 is-unready-requires : tie.Need-is-unready-requires Inv-loop μ-loop
 is-unready-requires c κs = (call-input _ _ _ _ (c .before .call-of .ensures), call-output _ _ _ _ (c .before .call-of .ensures))
@@ -88,11 +88,11 @@ returns-2 : tie.Need-returns-2 Inv-loop μ-loop
 returns-2 c =
     let at-call-of = c .before .before .before .before in
     let at-if1 = at-call-of .before in
-    let at-get-renderer = at-if1 .before in
+    let at-rendered-length = at-if1 .before in
     let at = c .before .before .before .before .before .before .before in
     c .refused2 .ensures
     ∙ unready-at _ _ _ (within at) (record { count = at .before .loop .count; calls = at .before .loop .calls }) _
-    (at-get-renderer .get-renderer .ensures) _ (at-call-of .call-of .ensures) (at-if1 .if1 .left) _
+    (at-rendered-length .rendered-length .ensures) _ (at-call-of .call-of .ensures) (at-if1 .if1 .left) _
     (tested (c .before .before)) (c .before .if2 .taken)
     ∙ at .before .loop .inv .rest
 
@@ -115,9 +115,9 @@ add-count c = omega arith
 
 add-first : tie.Need-add-first Inv-loop μ-loop
 add-first c =
-    let at-get-renderer = c .before .before .before .before .before .before in
-    let far = at-get-renderer .before in
-    omega (arith, rendered-at _ _ _ (within (far)) _ (at-get-renderer .get-renderer .ensures))
+    let at-rendered-length = c .before .before .before .before .before .before in
+    let far = at-rendered-length .before in
+    omega (arith, rendered-at _ _ _ (within (far)) _ (at-rendered-length .rendered-length .ensures))
 
 loop-less : tie.Need-loop-less Inv-loop μ-loop
 loop-less c = omega arith
@@ -127,9 +127,9 @@ unfolding extended
 loop-again c =
     let at-call-of = c .before .before .before .before in
     let at-if1 = at-call-of .before in
-    let at-get-renderer = at-if1 .before in
+    let at-rendered-length = at-if1 .before in
     let at = c .before .before .before .before .before .before .before in
-    let n = at-get-renderer .get-renderer .ensures in
+    let n = at-rendered-length .rendered-length .ensures in
     let e = at-call-of .call-of .ensures in
     let t = tested (c .before .before) in
     record {
@@ -160,7 +160,7 @@ compile-calls-spec =
     μ-loop
     no-call-requires
     loop-holds
-    get-renderer-requires
+    rendered-length-requires
     cast-refused
     refused-requires
     returns

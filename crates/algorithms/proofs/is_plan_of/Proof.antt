@@ -63,13 +63,13 @@ Goes-on c n d =
     let next = c .before .loop .first + n in
     planFrom (start .args .operators) 0 next (extended (so-far c) d) (rowFrom (start .args .operators) next (start .args .t2)) ≡ planned (start .args .operators) (start .args .t2)
 
-stepped : (c : tie.Else3 Inv-loop μ-loop) → Goes-on (c .before .before .before .before .before .before .before .before) (c .before .before .before .before .before .before .get-renderer .result) (c .before .before .before .call-of .result)
+stepped : (c : tie.Else3 Inv-loop μ-loop) → Goes-on (c .before .before .before .before .before .before .before .before) (c .before .before .before .before .before .before .rendered-length .result) (c .before .before .before .call-of .result)
 stepped c =
     let at-call-of = c .before .before .before in
     let at-if2 = at-call-of .before .before in
-    let at-get-renderer = at-if2 .before in
+    let at-rendered-length = at-if2 .before in
     let at = c .before .before .before .before .before .before .before .before in
-    step-at _ _ _ (within at) (so-far at) _ (at-get-renderer .get-renderer .ensures) _ (at-call-of .call-of .ensures)
+    step-at _ _ _ (within at) (so-far at) _ (at-rendered-length .rendered-length .ensures) _ (at-call-of .call-of .ensures)
     (at-if2 .if2 .left) _ (tested (c .before)) (c .if3 .left) ∙ at .before .loop .inv .rest
 
 is-counted-requires : tie.Need-is-counted-requires Inv-loop μ-loop
@@ -91,18 +91,18 @@ loop-holds c =
       rest = rw e;
     }
 
-get-renderer-requires : tie.Need-get-renderer-requires Inv-loop μ-loop
-get-renderer-requires c κs = within (c .before)
+rendered-length-requires : tie.Need-rendered-length-requires Inv-loop μ-loop
+rendered-length-requires c κs = within (c .before)
 
 returns-2 : tie.Need-returns-2 Inv-loop μ-loop
 returns-2 c =
     let at = c .before .before .before in
-    no-plan-of _ _ _ 3 _ refl (lacking-at _ _ _ (within at) (so-far at) _ (c .before .get-renderer .ensures) (c .if2 .taken) ∙ at .before .loop .inv .rest)
+    no-plan-of _ _ _ 3 _ refl (lacking-at _ _ _ (within at) (so-far at) _ (c .before .rendered-length .ensures) (c .if2 .taken) ∙ at .before .loop .inv .rest)
 
 call-of-requires : tie.Need-call-of-requires Inv-loop μ-loop
 call-of-requires c κs =
     let far = c .before .before .before .before in
-    (within (far), omega arith, rendered-at _ _ _ (within (far)) _ (c .before .before .get-renderer .ensures))
+    (within (far), omega arith, rendered-at _ _ _ (within (far)) _ (c .before .before .rendered-length .ensures))
 
 is-unready-requires : tie.Need-is-unready-requires Inv-loop μ-loop
 is-unready-requires c κs = (call-input _ _ _ _ (c .before .call-of .ensures), call-output _ _ _ _ (c .before .call-of .ensures))
@@ -111,10 +111,10 @@ returns-3 : tie.Need-returns-3 Inv-loop μ-loop
 returns-3 c =
     let at-call-of = c .before .before .before in
     let at-if2 = at-call-of .before .before in
-    let at-get-renderer = at-if2 .before in
+    let at-rendered-length = at-if2 .before in
     let at = c .before .before .before .before .before .before .before .before in
     no-plan-of _ _ _ 4 _ refl
-    (unready-at _ _ _ (within at) (so-far at) _ (at-get-renderer .get-renderer .ensures) _
+    (unready-at _ _ _ (within at) (so-far at) _ (at-rendered-length .rendered-length .ensures) _
     (at-call-of .call-of .ensures) (at-if2 .if2 .left) _ (tested (c .before)) (c .if3 .taken)
     ∙ at .before .loop .inv .rest)
 
@@ -146,9 +146,9 @@ add-k c = omega arith
 
 add-first : tie.Need-add-first Inv-loop μ-loop
 add-first c =
-    let at-get-renderer = c .before .before .before .before .before .before .before .before .before .before in
-    let far = at-get-renderer .before .before in
-    omega (arith, rendered-at _ _ _ (within (far)) _ (at-get-renderer .get-renderer .ensures))
+    let at-rendered-length = c .before .before .before .before .before .before .before .before .before .before in
+    let far = at-rendered-length .before .before in
+    omega (arith, rendered-at _ _ _ (within (far)) _ (at-rendered-length .rendered-length .ensures))
 
 loop-less : tie.Need-loop-less Inv-loop μ-loop
 loop-less c = omega arith
@@ -159,7 +159,7 @@ loop-again c =
     let at-if3 = c .before .before .before .before in
     let far = at-if3 .before in
     let at-call-of = far .before .before in
-    let at-get-renderer = at-call-of .before .before .before in
+    let at-rendered-length = at-call-of .before .before .before in
     let at = c .before .before .before .before .before .before .before .before .before .before .before .before in
     let e = at-call-of .call-of .ensures in
     let plan = at .before .before .before .before .args .t3 in
@@ -169,7 +169,7 @@ loop-again c =
       size = simp length-set (at .before .loop .inv .size);
       most = at .before .loop .inv .most;
       fewer = omega arith;
-      past = rendered-at _ _ _ (within at) _ (at-get-renderer .get-renderer .ensures);
+      past = rendered-at _ _ _ (within at) _ (at-rendered-length .rendered-length .ensures);
       shown = rw (← next) (flags-more (at .before .loop .ready) (so-far at .calls) (so-far at .count) _
           (at .before .loop .inv .size)
           (omega (arith, first-count plan (at .before .loop .k), first-slots plan (at .before .loop .k)))
@@ -195,7 +195,7 @@ is-plan-of-spec =
     is-counted-requires
     returns
     loop-holds
-    get-renderer-requires
+    rendered-length-requires
     returns-2
     call-of-requires
     is-unready-requires

@@ -1,6 +1,8 @@
 -- `algorithms::same_call` meets its contract. Assumes nothing.
+use mathlib.Core.Path.{sym, _∙_}
 use borrow.Author.Tests.{eq-eqb, ne-eqb}
 use Rattle.algorithms.specs.Plan.{sameCall}
+use Rattle.algorithms.proofs.Same.{same-from-output}
 use Rattle.algorithms.proofs.same_call.Statement.{statement}
 use Rattle.algorithms.proofs.same_call.Tie as tie
 
@@ -22,32 +24,19 @@ returns-3 c =
     simp (eq-eqb _ _ (at-if1 .if1 .left), eq-eqb _ _ (at-if2 .if2 .left), ne-eqb _ _ (c .if3 .taken))
 
 returns-4 : tie.Need-returns-4
-unfolding sameCall
 returns-4 c =
     let at-if3 = c .before .before .before in
     let at-if2 = at-if3 .before .before .before in
     let at-if1 = at-if2 .before .before .before in
-    simp (
-      eq-eqb _ _ (at-if1 .if1 .left),
-      eq-eqb _ _ (at-if2 .if2 .left),
-      eq-eqb _ _ (at-if3 .if3 .left),
-      ne-eqb _ _
-          (c .if4 .taken),
-    )
+    sym (same-from-output _ _ (at-if1 .if1 .left) (at-if2 .if2 .left) (at-if3 .if3 .left) ∙ simp (ne-eqb _ _ (c .if4 .taken)))
 
 returns-5 : tie.Need-returns-5
-unfolding sameCall
 returns-5 c =
     let at-if3 = c .before .before .before .before .before in
     let at-if2 = at-if3 .before .before .before in
     let at-if1 = at-if2 .before .before .before in
-    simp (
-      eq-eqb _ _ (at-if1 .if1 .left),
-      eq-eqb _ _ (at-if2 .if2 .left),
-      eq-eqb _ _ (at-if3 .if3 .left),
-      eq-eqb _ _
-          (c .before .before .if4 .left),
-    )
+    sym (same-from-output _ _ (at-if1 .if1 .left) (at-if2 .if2 .left) (at-if3 .if3 .left)
+    ∙ simp (eq-eqb _ _ (c .before .before .if4 .left)))
 
 pub same-call-spec : {M : Type 1} → statement M
 same-call-spec = tie.close (tie.spec returns returns-2 returns-3 returns-4 returns-5)

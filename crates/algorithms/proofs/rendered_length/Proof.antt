@@ -1,8 +1,8 @@
--- `algorithms::get_renderer` meets its contract. Assumes nothing.
+-- `algorithms::rendered_length` meets its contract. Assumes nothing.
 use Rattle.algorithms.proofs.Lengths.{several-at, dry-rendered, own-rendered, none-rendered}
 use borrow.Author.Needs.{needs}
-use Rattle.algorithms.proofs.get_renderer.Statement.{statement}
-use Rattle.algorithms.proofs.get_renderer.Tie as tie
+use Rattle.algorithms.proofs.rendered_length.Statement.{statement}
+use Rattle.algorithms.proofs.rendered_length.Tie as tie
 
 call-length-requires : tie.Need-call-length-requires
 call-length-requires c κs = search needs
@@ -49,8 +49,8 @@ returns-4 c =
     none-rendered _ _ _ (at .before .pre) _ (at .call-length .ensures) (at-if1 .if1 .left) _
     (at-source-of .source-of .ensures) (at-if2 .if2 .left) _ (c .before .is-flagged .ensures) (c .if3 .left)
 
-pub get-renderer-spec : {M : Type 1} → statement M
-get-renderer-spec =
+pub rendered-length-spec : {M : Type 1} → statement M
+rendered-length-spec =
     tie.close
     (tie.spec
     call-length-requires
