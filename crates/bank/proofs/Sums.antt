@@ -1,6 +1,6 @@
 -- The sum and the largest of some bytes, byte by byte, and what the checksum is. Assumes nothing.
-use mathlib.Core.Path.{_≡_, refl, sym, _∙_, ap}
-use mathlib.Core.Bool.{Bool, true, false, _&&_, true≢false}
+use mathlib.Core.Path.{_≡_, _∙_, ap}
+use mathlib.Core.Bool.{Bool, true, false, _&&_, and-false, and-eq-true-iff}
 use mathlib.Core.List.{List, [], _∷_, _++_}
 use Prim.Native.Nat.{ℕ, _+_, _-_, _%_, _<_, _≤_, max}
 use native.Mathlib.Numerals.{add-one}
@@ -10,14 +10,6 @@ use lib.Dec.{eqb, ltb}
 use lib.ListN.{length, getD, take}
 use lib.Seq.{take-suc}
 use Rattle.bank.specs.Bank.{total, largestOf, summed, checksumOf}
-
-and-false : (b : Bool) → b && false ≡ false
-and-false true = refl
-and-false false = refl
-
-and-both : (a b : Bool) → a && b ≡ true → (a ≡ true) × (b ≡ true)
-and-both true b e = (refl, e)
-and-both false b e = absurd (true≢false (sym e))
 
 total-snoc : (xs : List ℕ) (b : ℕ) → total (xs ++ (b ∷ [])) ≡ total xs + b
 unfolding total
@@ -59,5 +51,5 @@ module _ (bytes : List ℕ) (c : ℕ) where
   pub summed-checksum : summed bytes c ≡ true → c ≡ checksumOf bytes
   unfolding summed checksumOf
   summed-checksum e =
-      let p = and-both (eqb ((total bytes + c) % 128) 0) (ltb c 128) e in
+      let p = and-eq-true-iff (eqb ((total bytes + c) % 128) 0) (ltb c 128) .0 e in
       omega (arith, eqb-true ((total bytes + c) % 128) 0 (p .0), ltb-true c 128 (p .1))

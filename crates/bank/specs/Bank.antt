@@ -1,5 +1,5 @@
--- A dump of 32 packed patches, in document 01's words: its frame, its data, its checksum, the number it gets and the part of a slot.
--- Assumes nothing.
+-- A dump of 32 packed patches: its frame, its data, its checksum, the number it gets and the part of a slot.
+-- Definitions only, all to be believed.
 use mathlib.Core.Bool.{Bool, true, cond, _&&_}
 use mathlib.Core.List.{List, [], _∷_, _++_}
 use Prim.Native.Nat.{ℕ, zero, suc, _+_, _-_, _*_, _%_, max}
@@ -56,7 +56,8 @@ checksumOf bytes = (128 - total bytes % 128) % 128
 unfoldable pub validateOf : List ℕ → ℕ
 validateOf dump =
     cond (eqb (length dump) 4104)
-    (cond (framed frame dump) (cond (leb (largestOf (dataOf dump)) 127) (cond (summed (dataOf dump) (sumByte dump)) 0 13) 12) 11)
+    (cond (framed frame dump)
+    (cond (leb (largestOf (dataOf dump)) 127) (cond (summed (dataOf dump) (sumByte dump)) 0 13) 12) 11)
     10
 
 -- the number of a dump and a slot: 2 for a slot above 31, before the dump's

@@ -1,9 +1,11 @@
-// A dump of 32 packed patches and a slot in it. Added by us: no Rust file. Each entry is what specs/Bank says, for sound and damaged dumps
-// alike. Numbers given back: 2 slot above 31, 10 wrong length, 11 wrong frame byte, 12 data byte above 127, 13 wrong checksum.
+// A dump of 32 packed patches and a slot in it. Added by us: no Rust file. Each entry is what specs/Bank says, for
+// sound and damaged dumps alike. Numbers given back: 2 slot above 31, 10 wrong length, 11 wrong frame byte, 12 data
+// byte above 127, 13 wrong checksum.
 ghost use mathlib.Core.Path.{_≡_};
 ghost use Prim.Native.Nat.{_+_, _*_, _≤_, _<_, _%_, max};
 ghost use lib.ListN.{length};
-ghost use Rattle.bank.specs.Bank.{frame, framed, total, largestOf, checksumOf, validateOf, numberOf, slotOf, partOf};
+ghost use Rattle.bank.specs.Bank.{frame, framed, total, largestOf, checksumOf, validateOf, numberOf};
+ghost use Rattle.bank.specs.Bank.{slotOf, partOf};
 
 pub const DUMP_SIZE: usize = 4104;
 

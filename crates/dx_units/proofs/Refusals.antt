@@ -1,6 +1,6 @@
 -- What an entry answers, by its tests, over plain variables. Assumes nothing.
 use mathlib.Core.Path.{_≡_, sym, subst}
-use mathlib.Core.Bool.{Bool, true, false, _&&_}
+use mathlib.Core.Bool.{Bool, true, false, _&&_, and-assoc, and-true}
 use Prim.Native.Nat.{ℕ, _≤_, _<_}
 use borrow.Author.Tests.{le-leb, lt-leb}
 use lib.Dec.{T, leb, leb→le}
@@ -8,7 +8,10 @@ use lib.Ieee.Fits.{and-l, and-r}
 use lib.Ieee.{Float, le}
 use Rattle.numbers.specs.F32.{decimal}
 use Rattle.dx_units.specs.declared.Converted.the-variants.{Value, Refused}
-use Rattle.dx_units.specs.Answers.{fieldNumber, parameterNumber, firstOf, convertedFor, frequencyFits}
+use Rattle.patch.specs.Packed.{within, scalingFits}
+use Rattle.patch.specs.Form.{scalingNumber}
+use Rattle.patch.specs.Layout.{scalingField, scalingNames}
+use Rattle.dx_units.specs.Answers.{fieldNumber, parameterNumber, firstOf, convertedFor, scalingOf, frequencyFits}
 
 -- a field alone: 6 above its largest number
 pub field-fits : (n largest : ℕ) {r x : Float} → n ≤ largest → r ≡ x → Value r ≡ convertedFor (fieldNumber (leb n largest)) x
@@ -32,6 +35,13 @@ module _ (fits : Bool) (x : Float) (largest : ℕ) (v : Float) (e : fits ≡ tru
 
   pub parameter-below : le (decimal 0 0) x ≡ false → Refused 7 ≡ convertedFor (firstOf (fieldNumber fits) (parameterNumber x largest)) v
   parameter-below l = simp (e, l)
+
+-- the five numbers of keyboard scaling that fit, one by one
+pub five-fit : (leftDepth rightDepth leftCurve rightCurve breakPoint : ℕ)
+    → scalingFits (scalingOf leftDepth rightDepth leftCurve rightCurve breakPoint)
+    ≡ leb breakPoint 99 && leb leftDepth 99 && leb rightDepth 99 && leb leftCurve 3 && leb rightCurve 3
+unfolding scalingFits within scalingNames scalingField scalingNumber
+five-fit leftDepth rightDepth leftCurve rightCurve breakPoint = simp (and-assoc, and-true)
 
 -- the fields of a frequency that fit are in bounds of the table
 pub fits-coarse : (mode coarse fine detune : ℕ) → frequencyFits mode coarse fine detune ≡ true → coarse ≤ 31

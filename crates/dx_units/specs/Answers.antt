@@ -1,4 +1,5 @@
--- What each conversion's entry answers: document 01's number, and by it a value or the refusal. Definitions only.
+-- What each conversion's entry answers: its number, and by it a value or the refusal. Definitions only, all to be
+-- believed.
 use mathlib.Core.Bool.{Bool, _&&_, cond}
 use Prim.Native.Nat.{ℕ, zero, suc}
 use lib.Dec.{leb}
@@ -15,10 +16,13 @@ use Rattle.dx_units_inner.specs.declared.Increments.{Increments}
 use Rattle.dx_units_inner.specs.declared.Ratio.{Ratio}
 use Rattle.dx_units.specs.declared.Tuning.{Tuning}
 use Rattle.dx_units.specs.declared.Tuning.the-variants as tuned
-use Rattle.dx_units_inner.specs.Units.{operatorLevel, pitchEnvelopeLevel, operatorEnvelopeIncrement, pitchEnvelopeIncrement, lfoFrequency, lfoDelay}
-use Rattle.dx_units_inner.specs.Units.{normalizedVelocity, rateScaling, ampModSensitivity, pitchModSensitivity, keyboardScaling, frequencyRatio}
+use Rattle.dx_units_inner.specs.Units.{operatorLevel, pitchEnvelopeLevel, operatorEnvelopeIncrement}
+use Rattle.dx_units_inner.specs.Units.{pitchEnvelopeIncrement, lfoFrequency, lfoDelay, normalizedVelocity, rateScaling}
+use Rattle.dx_units_inner.specs.Units.{ampModSensitivity, pitchModSensitivity, keyboardScaling, frequencyRatio}
+use Rattle.patch.specs.declared.KeyboardScaling.{KeyboardScaling}
+use Rattle.patch.specs.Packed.{scalingFits}
 
--- ---- document 01's number of an answer: 0 where nothing is refused
+-- ---- the number of an answer: 0 where nothing is refused
 
 -- 6 for a field above its largest number
 abbrev pub fieldNumber : Bool → ℕ
@@ -33,10 +37,15 @@ abbrev pub firstOf : ℕ → ℕ → ℕ
 firstOf zero other = other
 firstOf (suc n) other = suc n
 
--- the largest numbers of keyboard scaling
-unfoldable pub keyboardFits : ℕ → ℕ → ℕ → ℕ → ℕ → Bool
-keyboardFits leftDepth rightDepth leftCurve rightCurve breakPoint =
-    leb leftDepth 99 && leb rightDepth 99 && leb leftCurve 3 && leb rightCurve 3 && leb breakPoint 99
+-- the five numbers of keyboard scaling, for the limits that a patch's have: `five-fit` tells them one by one
+abbrev pub scalingOf : ℕ → ℕ → ℕ → ℕ → ℕ → KeyboardScaling
+scalingOf leftDepth rightDepth leftCurve rightCurve breakPoint = record {
+  «left_depth» = leftDepth;
+  «right_depth» = rightDepth;
+  «left_curve» = leftCurve;
+  «right_curve» = rightCurve;
+  «break_point» = breakPoint;
+}
 
 -- the largest numbers of a frequency
 unfoldable pub frequencyFits : ℕ → ℕ → ℕ → ℕ → Bool
@@ -84,7 +93,8 @@ unfoldable pub normalizeVelocityAnswer : Float → Converted
 normalizeVelocityAnswer velocity = convertedFor (parameterNumber velocity 1) (normalizedVelocity velocity)
 
 unfoldable pub rateScalingAnswer : Float → ℕ → Converted
-rateScalingAnswer note scaling = convertedFor (firstOf (fieldNumber (leb scaling 7)) (parameterNumber note 127)) (rateScaling note scaling)
+rateScalingAnswer note scaling =
+    convertedFor (firstOf (fieldNumber (leb scaling 7)) (parameterNumber note 127)) (rateScaling note scaling)
 
 unfoldable pub ampModSensitivityAnswer : ℕ → Converted
 ampModSensitivityAnswer sensitivity = convertedFor (fieldNumber (leb sensitivity 3)) (ampModSensitivity sensitivity)
@@ -94,9 +104,11 @@ pitchModSensitivityAnswer sensitivity = convertedFor (fieldNumber (leb sensitivi
 
 unfoldable pub keyboardScalingAnswer : Float → ℕ → ℕ → ℕ → ℕ → ℕ → Converted
 keyboardScalingAnswer note leftDepth rightDepth leftCurve rightCurve breakPoint =
-    convertedFor (firstOf (fieldNumber (keyboardFits leftDepth rightDepth leftCurve rightCurve breakPoint)) (parameterNumber note 127))
+    let fits = scalingFits (scalingOf leftDepth rightDepth leftCurve rightCurve breakPoint) in
+    convertedFor (firstOf (fieldNumber fits) (parameterNumber note 127))
     (keyboardScaling note leftDepth rightDepth leftCurve rightCurve breakPoint)
 
 unfoldable pub frequencyRatioAnswer : ℕ → ℕ → ℕ → ℕ → Tuning
 frequencyRatioAnswer mode coarse fine detune =
-    tuningFor (fieldNumber (frequencyFits mode coarse fine detune)) (frequencyRatio lutPitchRatioHigh lutPitchRatioLow mode coarse fine detune)
+    tuningFor (fieldNumber (frequencyFits mode coarse fine detune))
+    (frequencyRatio lutPitchRatioHigh lutPitchRatioLow mode coarse fine detune)

@@ -1,20 +1,21 @@
-// The conversions of DX7 patch data, after dx_units.rs and in its order, and the step for a frequency,
-// after operator.rs. An entry refuses a field above its largest number (6) and a parameter that is a NaN
-// or outside its range (7), and its promise names the answer for every input. The conversions
-// themselves, for callers that have checked their fields, are in `dx_units_inner`.
+// The conversions of DX7 patch data, after dx_units.rs and in its order, and the step for a frequency, after
+// operator.rs. An entry refuses a field above its largest number (6) and a parameter that is a NaN or outside its range
+// (7), and its promise names the answer for every input. The conversions themselves, for callers that have checked
+// their fields, and what each is about, are in `dx_units_inner`.
 ghost use mathlib.Core.Path.{_≡_};
 ghost use Rattle.dx_units.specs.Answers.{operatorLevelAnswer, pitchEnvelopeLevelAnswer};
 ghost use Rattle.dx_units.specs.Answers.{operatorEnvelopeIncrementAnswer, pitchEnvelopeIncrementAnswer};
 ghost use Rattle.dx_units.specs.Answers.{lfoFrequencyAnswer, lfoDelayAnswer, normalizeVelocityAnswer};
 ghost use Rattle.dx_units.specs.Answers.{rateScalingAnswer, ampModSensitivityAnswer};
 ghost use Rattle.dx_units.specs.Answers.{pitchModSensitivityAnswer, keyboardScalingAnswer};
-ghost use Rattle.dx_units.specs.Answers.{keyboardFits, frequencyRatioAnswer, frequencyFits};
+ghost use Rattle.dx_units.specs.Answers.{frequencyRatioAnswer, frequencyFits};
 pub use dx_units_inner::Increments;
 pub use dx_units_inner::Ratio;
 pub use dx_units_inner::frequency_step;
 pub use dx_units_inner::lut_coarse;
 pub use dx_units_inner::lut_cube_root;
 pub use dx_units_power::pow_2_fast;
+use patch::KeyboardScaling;
 
 // A level, or the number of a refusal.
 pub enum Level {
@@ -147,8 +148,8 @@ pub fn pitch_mod_sensitivity(sensitivity: u8) -> Converted
     Converted::Value(dx_units_inner::pitch_mod_sensitivity(sensitivity))
 }
 
-// The level's change at a note, by the side of the break point on which it lies. All five numbers are
-// checked, used or not.
+// The level's change at a note, by the side of the break point on which it lies. All five numbers are checked, used or
+// not.
 pub fn keyboard_scaling(
     note: f32,
     left_depth: u8,
@@ -157,16 +158,17 @@ pub fn keyboard_scaling(
     right_curve: u8,
     break_point: u8,
 ) -> Converted
-    ensures { λ r. ⌜ r ≡ keyboardScalingAnswer note «left_depth» «right_depth» «left_curve» «right_curve» «break_point» ⌝ }
+    ensures { λ r. ⌜ r ≡ keyboardScalingAnswer note «left_depth» «right_depth» «left_curve» «right_curve»
+        «break_point» ⌝ }
 {
-    let fits = keyboard_fits(
+    let scaling = KeyboardScaling {
         left_depth,
         right_depth,
         left_curve,
         right_curve,
         break_point,
-    );
-    if !fits {
+    };
+    if !patch_limits::scaling_fits(scaling) {
         return Converted::Refused(6);
     }
     if note >= 0.0 {
@@ -196,49 +198,9 @@ pub fn frequency_ratio(mode: u8, coarse: u8, fine: u8, detune: u8) -> Tuning
     Tuning::Value(dx_units_inner::frequency_ratio(&high, &low, mode, coarse, fine, detune))
 }
 
-// Whether keyboard scaling's numbers are at most their largest.
-fn keyboard_fits(
-    left_depth: u8,
-    right_depth: u8,
-    left_curve: u8,
-    right_curve: u8,
-    break_point: u8,
-) -> bool
-    ensures { λ r. ⌜ r ≡ keyboardFits «left_depth» «right_depth» «left_curve» «right_curve» «break_point» ⌝ }
-{
-    if left_depth > 99 {
-        return false;
-    }
-    if right_depth > 99 {
-        return false;
-    }
-    if left_curve > 3 {
-        return false;
-    }
-    if right_curve > 3 {
-        return false;
-    }
-    if break_point > 99 {
-        return false;
-    }
-    true
-}
-
-// Whether a frequency's numbers are.
+// Whether a frequency's numbers are at most their largest.
 fn frequency_fits(mode: u8, coarse: u8, fine: u8, detune: u8) -> bool
     ensures { λ r. ⌜ r ≡ frequencyFits mode coarse fine detune ⌝ }
 {
-    if mode > 1 {
-        return false;
-    }
-    if coarse > 31 {
-        return false;
-    }
-    if fine > 99 {
-        return false;
-    }
-    if detune > 14 {
-        return false;
-    }
-    true
+    (mode <= 1) & (coarse <= 31) & (fine <= 99) & (detune <= 14)
 }

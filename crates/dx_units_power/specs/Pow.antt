@@ -1,4 +1,4 @@
--- `pow_2_fast`: one rounding per written operation, in the Rust's order. Definitions only.
+-- `pow_2_fast`: one rounding per written operation, in the Rust's order. Definitions only, all to be believed.
 use mathlib.Core.Bool.{Bool, false, cond}
 use Prim.Native.Nat.{ℕ}
 use lib.Dec.{eqb}
@@ -21,10 +21,11 @@ wholeBelow x = cond (lt x (decimal 0 0)) (differenceSigned (toSigned 31 x) (pos 
 unfoldable pub mantissaBits : Float → ℤ → ℕ
 mantissaBits x order =
     cond (isOrder 2 order) (toBits binary32 (decimal 1 0 ⊕ x ⊗ (decimal 6565 4 ⊕ x ⊗ decimal 3435 4)))
-    (cond (isOrder 3 order) (toBits binary32 (decimal 1 0 ⊕ x ⊗ (decimal 6958 4 ⊕ x ⊗ (decimal 2251 4 ⊕ x ⊗ decimal 791 4)))) 0)
+    (cond (isOrder 3 order)
+    (toBits binary32 (decimal 1 0 ⊕ x ⊗ (decimal 6958 4 ⊕ x ⊗ (decimal 2251 4 ⊕ x ⊗ decimal 791 4)))) 0)
 
--- order 1: the bits are 2 ^ 23 times 127 plus x, as i32. Other orders: the polynomial at x less its whole number, which is added to the exponent's
--- field by a sum of bits, wrapped
+-- 2 to the x. Order 1: the bits are 2 ^ 23 times 127 plus x, as i32: straight lines between the powers of two. Other
+-- orders: the polynomial at x less its whole number, which is added to the exponent's field by a sum of bits, wrapped
 unfoldable pub pow2Fast : Float → ℤ → Float
 pow2Fast x order =
     let whole = wholeBelow x in

@@ -41,10 +41,10 @@ fast-in _ f (ge-fin m (pos k) g) (lt-fin _ _ l) =
     (and-i (eqb (n % 1) 0) (leb (n / 1) (2 ^ 53)) (eq→eqb (mod-one n)) (le→leb (n / 1) (2 ^ 53) (omega arith))) tt)
     (lt→ltb (n / 1) (2 ^ 32) h)
 
-pub at-least-number : (j : ℕ) (x : Float) → AtLeast j x → isNan x ≡ false
+pub at-least-no-nan : (j : ℕ) (x : Float) → AtLeast j x → isNan x ≡ false
 unfolding isNan
-at-least-number j _ ge-inf = refl
-at-least-number j _ (ge-fin m e g) = refl
+at-least-no-nan j _ ge-inf = refl
+at-least-no-nan j _ (ge-fin m e g) = refl
 
 -- the whole part is below 2 ^ j, or 2 ^ j at least
 pub whole-lt : (j m : ℕ) (e : ℤ) → m * up e < 2 ^ j * down e → m * up e / down e < 2 ^ j
@@ -53,9 +53,9 @@ whole-lt j m e h = div-lt-iff-lt-mul (down-pos e) .1 h
 pub whole-ge : (j m : ℕ) (e : ℤ) → 2 ^ j * down e ≤ m * up e → 2 ^ j ≤ m * up e / down e
 whole-ge j m e h = le-div-iff-mul-le (down-pos e) .1 h
 
-pub too-large : (w : ℕ) (x : Float) → NotUnder w x → (x ≡ nan → ⊥) → toUnsigned w x ≡ 2 ^ w - 1
-unfolding toUnsigned
-too-large w _ nlt-nan n = absurd (n refl)
+pub too-large : (w : ℕ) (x : Float) → NotUnder w x → isNan x ≡ false → toUnsigned w x ≡ 2 ^ w - 1
+unfolding toUnsigned isNan
+too-large w _ nlt-nan n = on n
 too-large w _ nlt-inf n = refl
 too-large w _ (nlt-fin m e g) n = let h = whole-ge w m e g in omega arith
 
@@ -79,11 +79,6 @@ small-enough j k _ p nge-nan a = no a
 small-enough j k _ p nge-inf a = no a
 small-enough j k _ p (nge-neg m e) a = lt→ltb 0 (m * up e * 1 + 1 * 2 ^ k * down e) (let z = mul-le-mul (pow-pos k) (down-pos e) in omega arith)
 small-enough j k _ p (nge-fin m e g) a = lt→ltb (m * up e * 1) (1 * 2 ^ k * down e) (let z = mul-le-mul-right (down e) p in rw (one-mul, mul-one) (omega arith))
-
-pub at-least-not-nan : (j : ℕ) (x : Float) → AtLeast j x → x ≡ nan → ⊥
-unfolding isNan
-at-least-not-nan j _ ge-inf e = on (sym (ap isNan e))
-at-least-not-nan j _ (ge-fin m d g) e = on (sym (ap isNan e))
 
 -- what `x as f64` asks
 pub widens : (x : Float) → T (fits binary32 x) → isNan x ≡ false → T (fits binary64 x && not (isNan x))

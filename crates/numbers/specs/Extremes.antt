@@ -1,4 +1,4 @@
--- Rust's f32::min, max, abs and clamp(0.0, 1.0), for every float. Definitions only.
+-- Rust's f32::min, max, abs and clamp(0.0, 1.0), for every float. Definitions only, all to be believed.
 -- A minimum or a maximum with a NaN is the other number: it never hands a NaN on. Of two zeros it is the first.
 use mathlib.Core.Bool.{false, cond}
 use lib.Ieee.{Float, nan, inf, fin, lt, isNan}

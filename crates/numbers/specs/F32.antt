@@ -1,5 +1,5 @@
--- Rust's operations on f32, under short names: each rounds once, to the nearest f32. Every crate's definitions use them.
--- Definitions only.
+-- Rust's operations on f32, under short names: each rounds once, to the nearest f32. Every crate's definitions use
+-- them. Definitions only, all to be believed.
 use mathlib.Core.Bool.{true, false}
 use Prim.Native.Nat.{ℕ, _^_}
 use lib.IntN.{pos}

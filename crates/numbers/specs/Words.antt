@@ -1,4 +1,4 @@
--- Whole numbers at 32 bits, as Rust's wrapping operations have them. Definitions only.
+-- Whole numbers at 32 bits, as Rust's wrapping operations have them. Definitions only, all to be believed.
 -- `ofZ w32` is a signed number's 32 bits, in two's complement, and `toZ w32` the signed number of 32 bits.
 use Prim.Native.Nat.{ℕ, _+_, _-_, _*_, _%_, _^_}
 use lib.IntN.{ℤ}

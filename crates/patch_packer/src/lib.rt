@@ -17,7 +17,8 @@ pub struct Packed {
     pub bytes: [u8; 128],
 }
 
-// The 17 bytes of an operator that fits: its numbers as they are, each lies within its field's bits.
+// The 17 bytes of an operator that fits, as a table in layout order: its numbers as they are, each lies within its
+// field's bits.
 fn operator_bytes(o: Operator) -> [u8; 17]
     requires { ⌜ operatorFits o ≡ true ⌝ }
     ensures { λ r. ⌜ r ≡ operatorBytes o ⌝ }
@@ -27,6 +28,7 @@ fn operator_bytes(o: Operator) -> [u8; 17]
     let level = e.level;
     let k = o.keyboard_scaling;
     [
+        // Bytes 0 to 7.
         rate[0],
         rate[1],
         rate[2],
@@ -35,6 +37,7 @@ fn operator_bytes(o: Operator) -> [u8; 17]
         level[1],
         level[2],
         level[3],
+        // Bytes 8 to 16.
         k.break_point,
         k.left_depth,
         k.right_depth,
@@ -47,7 +50,7 @@ fn operator_bytes(o: Operator) -> [u8; 17]
     ]
 }
 
-// The 26 bytes behind the operators, of a patch that fits.
+// The 26 bytes behind the operators, of a patch that fits, as such a table.
 fn shared_bytes(p: Patch) -> [u8; 26]
     requires { ⌜ patchFits p ≡ true ⌝ }
     ensures { λ r. ⌜ r ≡ sharedBytes p ⌝ }
@@ -58,6 +61,7 @@ fn shared_bytes(p: Patch) -> [u8; 26]
     let m = p.modulations;
     let name = p.name;
     [
+        // Bytes 102 to 109, of the pitch.
         rate[0],
         rate[1],
         rate[2],
@@ -66,6 +70,7 @@ fn shared_bytes(p: Patch) -> [u8; 26]
         level[1],
         level[2],
         level[3],
+        // Bytes 110 to 117.
         p.algorithm,
         p.feedback + p.reset_phase * 8,
         m.rate,
@@ -74,6 +79,7 @@ fn shared_bytes(p: Patch) -> [u8; 26]
         m.amp_mod_depth,
         m.reset_phase + m.waveform * 2 + m.pitch_mod_sensitivity * 16,
         p.transpose,
+        // Bytes 118 to 127.
         name[0],
         name[1],
         name[2],

@@ -1,4 +1,4 @@
--- The plan printer's text as bytes, line by line.
+-- The plan printer's text as bytes, line by line. To be believed.
 use Prim.Native.Nat.{ℕ, _+_, _/_, _%_}
 use mathlib.Core.Path.{_≡_}
 use mathlib.Core.Bool.{Bool, cond}

@@ -4,7 +4,8 @@ ghost use mathlib.Core.Path.{_≡_};
 ghost use mathlib.Core.List.{[], _∷_};
 ghost use Prim.Native.Nat.{_+_, _*_, _≤_, _<_};
 ghost use lib.ListN.{length, take};
-ghost use Rattle.plan_text.specs.Text.{Written, digit, hexDigit, bytesText, rowText, countText, sourceText, wayText, callText, callsText, atText, refusalText, planText};
+ghost use Rattle.plan_text.specs.Text.{Written, digit, hexDigit, bytesText, rowText, countText, sourceText};
+ghost use Rattle.plan_text.specs.Text.{wayText, callText, callsText, atText, refusalText, planText};
 use algorithms::Call;
 use algorithms::Plan;
 
@@ -115,7 +116,8 @@ fn put_call(out: &mut [u8; 160], at: usize, c: Call) -> usize
 
 fn put_calls(out: &mut [u8; 160], at: usize, plan: Plan) -> usize
     requires { ⌜ (at ≤ 30) × (plan .count ≤ 6) ⌝ }
-    ensures { λ r. ⌜ Written (now (out .entry)) at (callsText (take (plan .count) (plan .calls))) (now (out .exit)) r ⌝ }
+    ensures { λ r. ⌜ Written (now (out .entry)) at (callsText (take (plan .count) (plan .calls)))
+        (now (out .exit)) r ⌝ }
 {
     let count = plan.count as usize;
     let mut place = at;
@@ -149,8 +151,8 @@ fn put_refusal(out: &mut [u8; 160], number: u8, operator: u8) -> usize
     put_at(out, b, number, operator)
 }
 
-// The text for one raw row: the row, its number of calls and a line for each; or the line of its refusal. The answer is the
-// text's length.
+// The text for one raw row: the row, its number of calls and a line for each; or the line of its refusal. The answer is
+// the text's length.
 pub fn print(bytes: &[u8], out: &mut [u8; 160]) -> usize
     ensures { λ r. ⌜ Written (now (out .entry)) 0 (planText (now (bytes .entry))) (now (out .exit)) r ⌝ }
 {

@@ -1,4 +1,4 @@
--- The generator's next number and its draw. Definitions only.
+-- The generator's next number and its draw. Definitions only, all to be believed.
 use Prim.Native.Nat.{ℕ}
 use Rattle.numbers.specs.F32.{_⊘_, decimal, asFloat}
 use Rattle.numbers.specs.Words.{sum32, product32}

@@ -8,20 +8,20 @@ use native.Mathlib.Omega.{arith}
 use lib.Dec.{T}
 use lib.IntN.{ℤ, pos, negsuc}
 use lib.Pow.{pow-pos}
-use lib.Ieee.{Float, nan, inf, fin, binary32, binary64, low, up, down, lt, le, eq, mul, round, fits, isNan, toUnsigned, toSigned, inSigned}
+use lib.Ieee.{Float, fin, binary32, binary64, low, lt, le, eq, mul, round, fits, isNan, toUnsigned, toSigned, inSigned}
 use lib.Ieee.Bits.{is-true}
 use lib.Ieee.Exact.{HasValue}
-use lib.Ieee.Fits.{down-pos, mul-fits}
+use lib.Ieee.Fits.{mul-fits}
 use lib.Ieee.Positive.{positive, num, den, den-pos, own-value, between, mul-at, mul-mono}
 use lib.Ieee.Scale.{finite, normal-of-fraction}
 use mir.Syntax.{w32}
 use mir.Val.{toZ, ofZ}
 use mir.ValLaws.{toZ-pos}
 use Rattle.numbers.specs.F32.{_⊕_, _⊗_}
-use Rattle.numbers.proofs.Views.{no, or-le, AtLeast, ge-inf, ge-fin, at-least, Under, lt-inf, lt-neg, lt-fin}
+use Rattle.numbers.proofs.Views.{AtLeast, ge-fin, at-least, Under, lt-fin}
 use Rattle.numbers.proofs.Casts.{no-fraction, digits-lt}
-use Rattle.sine.proofs.Near.{lift, scale, lowest, highest, Within, near-within, within-whole, within-below}
-use Rattle.sine.proofs.Turns.{value-number, value-signed, value-in, value-cast, raised, at-least-one, large-finite}
+use Rattle.sine.proofs.Near.{lift, per-turn, lowest, highest, Within, at-most, fewer, near-within, within-whole, within-below}
+use Rattle.sine.proofs.Turns.{value-no-nan, value-signed, value-in, value-cast, raised, at-least-one, large-finite}
 
 abbrev pub half : Float
 half = fin false 1 (pos 25)
@@ -32,26 +32,14 @@ same-half = tt
 
 -- ---- where the product lies
 
-at-most : (x : Float) → le x (fin false 31 (pos 26)) ≡ true → Under 31 x
-unfolding le lt eq
-at-most nan h = no h
-at-most (inf true) h = lt-inf
-at-most (inf false) h = no h
-at-most (fin true m e) h = lt-neg m e
-at-most (fin false m e) h = lt-fin m e (let z = or-le (m * up e * 1) (31 * 2 ^ 26 * down e) true h in let d = down-pos e in omega arith)
-
-fewer : (x : Float) → AtLeast 25 x → AtLeast 23 x
-fewer _ ge-inf = ge-inf
-fewer _ (ge-fin m e g) = ge-fin m e (omega arith)
-
 half-whole : (l : Float) → Within l → AtLeast 23 (l ⊗ half)
 unfolding Within mul round
 half-whole l (h, k) =
-    fewer (l ⊗ half) (at-least 25 (l ⊗ half) (is-true (le (fin false 1 (pos 25)) (l ⊗ half)) (mul-mono binary32 lowest l half half tt (between lowest l highest tt tt h k) tt tt h same-half)))
+    fewer 23 25 (omega arith) (l ⊗ half) (at-least 25 (l ⊗ half) (is-true (le (fin false 1 (pos 25)) (l ⊗ half)) (mul-mono binary32 lowest l half half tt (between lowest l highest tt tt h k) tt tt h same-half)))
 
 half-below : (l : Float) → Within l → Under 31 (l ⊗ half)
 unfolding Within mul round
-half-below l (h, k) = at-most (l ⊗ half) (is-true (le (l ⊗ half) (fin false 31 (pos 26))) (mul-mono binary32 l highest half half (between lowest l highest tt tt h k) tt tt tt k same-half))
+half-below l (h, k) = at-most 26 31 (omega arith) (l ⊗ half) (is-true (le (l ⊗ half) (fin false 31 (pos 26))) (mul-mono binary32 l highest half half (between lowest l highest tt tt h k) tt tt tt k same-half))
 
 -- ---- a whole number
 
@@ -72,12 +60,12 @@ module _ (l : Float) (p : T (positive l)) (h : den l ≤ num l) where
   halved-is : l ⊗ half ≡ round binary32 false (num l * 2 ^ 25) (den l * 1)
   halved-is = mul-at binary32 l half (num l) (den l) (2 ^ 25) 1 p tt (den-pos l) (omega arith) (own-value l p) (refl, refl)
 
-  scaled-is : l ⊗ scale ≡ round binary32 false (num l * 2 ^ 25 * 2 ^ 1) (den l * 1)
+  scaled-is : l ⊗ per-turn ≡ round binary32 false (num l * 2 ^ 25 * 2 ^ 1) (den l * 1)
   scaled-is =
-      mul-at binary32 l scale (num l) (den l) (2 ^ 26) 1 p tt (den-pos l) (omega arith) (own-value l p) (refl, refl)
+      mul-at binary32 l per-turn (num l) (den l) (2 ^ 26) 1 p tt (den-pos l) (omega arith) (own-value l p) (refl, refl)
       ∙ ap (λ (n : ℕ). round binary32 false n (den l * 1)) (sym (mul-assoc (num l) (2 ^ 25) (2 ^ 1)))
 
-  doubled : (n : ℕ) → T (finite (l ⊗ half)) → T (finite (l ⊗ scale)) → HasValue (l ⊗ half) false n 1 → HasValue (l ⊗ scale) false (n * 2 ^ 1) 1
+  doubled : (n : ℕ) → T (finite (l ⊗ half)) → T (finite (l ⊗ per-turn)) → HasValue (l ⊗ half) false n 1 → HasValue (l ⊗ per-turn) false (n * 2 ^ 1) 1
   doubled n s t v =
       let a = num l * 2 ^ 25 in
       let c = den l * 1 in
@@ -91,27 +79,27 @@ module _ (l : Float) (p : T (positive l)) (h : den l ≤ num l) where
 -- what the cast of the product with 2 ^ 25 takes, and gives
 pub record Halved (x : Float) (steps : ℕ) : Type 0 where
   pub halves : ℕ
-  pub number : isNan x ≡ false
+  pub no-nan : isNan x ≡ false
   pub accepted : T (inSigned binary64 31 x)
   pub cast : toZ w32 (ofZ w32 (toSigned 31 x)) ≡ pos halves
   pub small : halves < 2 ^ 31
   pub twice : steps ≡ halves * 2
 
-pub near-halved : (pm : Float) → (le (fin true 31 (pos 0)) pm && le pm (fin false 15 (pos 1))) ≡ true → Halved ((pm ⊕ lift) ⊗ half) (toUnsigned 32 ((pm ⊕ lift) ⊗ scale))
+pub near-halved : (pm : Float) → (le (fin true 31 (pos 0)) pm && le pm (fin false 15 (pos 1))) ≡ true → Halved ((pm ⊕ lift) ⊗ half) (toUnsigned 32 ((pm ⊕ lift) ⊗ per-turn))
 near-halved pm h = go (pm ⊕ lift) (near-within pm h)
   where
-    go : (l : Float) → Within l → Halved (l ⊗ half) (toUnsigned 32 (l ⊗ scale))
+    go : (l : Float) → Within l → Halved (l ⊗ half) (toUnsigned 32 (l ⊗ per-turn))
     go l w = finish (whole (l ⊗ half) (mul-fits binary32 l half) (half-whole l w) (half-below l w))
       where
-        finish : Whole (l ⊗ half) → Halved (l ⊗ half) (toUnsigned 32 (l ⊗ scale))
+        finish : Whole (l ⊗ half) → Halved (l ⊗ half) (toUnsigned 32 (l ⊗ per-turn))
         finish (is-whole _ n b v) =
             let o = at-least-one l w in
-            let t = doubled l (o .0) (o .1) n (half-finite (l ⊗ half) (half-whole l w) (half-below l w)) (large-finite (l ⊗ scale) (within-whole l w) (within-below l w)) v in
+            let t = doubled l (o .0) (o .1) n (half-finite (l ⊗ half) (half-whole l w) (half-below l w)) (large-finite (l ⊗ per-turn) (within-whole l w) (within-below l w)) v in
             record {
               halves = n;
-              number = value-number (l ⊗ half) n v;
+              no-nan = value-no-nan (l ⊗ half) n v;
               accepted = value-in 31 n (l ⊗ half) v (omega arith) b;
               cast = rw (value-signed 31 n (l ⊗ half) v b) (toZ-pos w32 n b);
               small = b;
-              twice = value-cast 32 (n * 2 ^ 1) (l ⊗ scale) t (omega arith);
+              twice = value-cast 32 (n * 2 ^ 1) (l ⊗ per-turn) t (omega arith);
             }

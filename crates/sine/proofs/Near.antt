@@ -4,6 +4,7 @@
 use mathlib.Core.Path.{_≡_, sym, subst}
 use mathlib.Core.Bool.{Bool, true, false, _&&_, cond}
 use Prim.Native.Nat.{ℕ, _+_, _*_, _-_, _^_, _<_, _≤_}
+use native.Mathlib.Nat.{le-trans, suc-mul, mul-le-mul-right}
 use native.Mathlib.Omega.{arith}
 use borrow.Author.Tests.{lt-ltb}
 use lib.Dec.{T, ltb, lt→ltb}
@@ -15,14 +16,14 @@ use lib.Ieee.Order.{round-mono}
 use lib.Ieee.Positive.{positive, between, first-pos, mul-mono}
 use Rattle.numbers.specs.F32.{_⊕_, _⊗_}
 use Rattle.numbers.proofs.Views.{no, both, or-le, or-ge, AtLeast, ge-inf, ge-fin, at-least, Under, lt-inf, lt-neg, lt-fin, nlt-inf, nlt-fin}
-use Rattle.numbers.proofs.Casts.{too-large, at-least-not-nan}
+use Rattle.numbers.proofs.Casts.{too-large, at-least-no-nan}
 
--- the lift, the scale, and the ends of the lifted modulation
+-- the lift, the steps of a turn, and the ends of the lifted modulation
 abbrev pub lift : Float
 lift = fin false 1 (pos 5)
 
-abbrev pub scale : Float
-scale = fin false 1 (pos 26)
+abbrev pub per-turn : Float
+per-turn = fin false 1 (pos 26)
 
 abbrev pub lowest : Float
 lowest = fin false 1 (pos 0)
@@ -30,9 +31,9 @@ lowest = fin false 1 (pos 0)
 abbrev pub highest : Float
 highest = fin false 31 (pos 1)
 
-same-scale : T (le scale scale)
+same-per-turn : T (le per-turn per-turn)
 unfolding le lt eq
-same-scale = tt
+same-per-turn = tt
 
 -- ---- the sum
 
@@ -60,42 +61,47 @@ lifted-within (fin true m e) h k =
 
 -- ---- the product
 
-at-most : (x : Float) → le x (fin false 31 (pos 27)) ≡ true → Under 32 x
+-- 31 * 2 ^ j at most, so below 2 ^ k
+pub at-most : (j k : ℕ) → 31 * 2 ^ j < 2 ^ k → (x : Float) → le x (fin false 31 (pos j)) ≡ true → Under k x
 unfolding le lt eq
-at-most nan h = no h
-at-most (inf true) h = lt-inf
-at-most (inf false) h = no h
-at-most (fin true m e) h = lt-neg m e
-at-most (fin false m e) h = lt-fin m e (let z = or-le (m * up e * 1) (31 * 2 ^ 27 * down e) true h in let d = down-pos e in omega arith)
+at-most j k p nan h = no h
+at-most j k p (inf true) h = lt-inf
+at-most j k p (inf false) h = no h
+at-most j k p (fin true m e) h = lt-neg m e
+at-most j k p (fin false m e) h =
+    let z = or-le (m * up e * 1) (31 * 2 ^ j * down e) true h in
+    let d = down-pos e in
+    let g : 31 * 2 ^ j * down e + down e ≤ 2 ^ k * down e = rw (← suc-mul (31 * 2 ^ j) (down e)) (mul-le-mul-right (down e) p) in
+    lt-fin m e (omega arith)
 
--- 2 ^ 26 at least, so 2 ^ 23 at least
-fewer : (x : Float) → AtLeast 26 x → AtLeast 23 x
-fewer _ ge-inf = ge-inf
-fewer _ (ge-fin m e g) = ge-fin m e (omega arith)
+-- 2 ^ k at least, so 2 ^ j at least
+pub fewer : (j k : ℕ) → 2 ^ j ≤ 2 ^ k → (x : Float) → AtLeast k x → AtLeast j x
+fewer j k p _ ge-inf = ge-inf
+fewer j k p _ (ge-fin m e g) = ge-fin m e (le-trans (mul-le-mul-right (down e) p) g)
 
-pub within-whole : (l : Float) → Within l → AtLeast 23 (l ⊗ scale)
+pub within-whole : (l : Float) → Within l → AtLeast 23 (l ⊗ per-turn)
 unfolding Within mul round
 within-whole l (h, k) =
-    fewer (l ⊗ scale) (at-least 26 (l ⊗ scale) (is-true (le (fin false 1 (pos 26)) (l ⊗ scale)) (mul-mono binary32 lowest l scale scale tt (between lowest l highest tt tt h k) tt tt h same-scale)))
+    fewer 23 26 (omega arith) (l ⊗ per-turn) (at-least 26 (l ⊗ per-turn) (is-true (le (fin false 1 (pos 26)) (l ⊗ per-turn)) (mul-mono binary32 lowest l per-turn per-turn tt (between lowest l highest tt tt h k) tt tt h same-per-turn)))
 
-pub within-below : (l : Float) → Within l → Under 32 (l ⊗ scale)
+pub within-below : (l : Float) → Within l → Under 32 (l ⊗ per-turn)
 unfolding Within mul round
-within-below l (h, k) = at-most (l ⊗ scale) (is-true (le (l ⊗ scale) (fin false 31 (pos 27))) (mul-mono binary32 l highest scale scale (between lowest l highest tt tt h k) tt tt tt k same-scale))
+within-below l (h, k) = at-most 27 32 (omega arith) (l ⊗ per-turn) (is-true (le (l ⊗ per-turn) (fin false 31 (pos 27))) (mul-mono binary32 l highest per-turn per-turn (between lowest l highest tt tt h k) tt tt tt k same-per-turn))
 
 -- from 64 on the cast gives the largest number
 all : (x : Float) → AtLeast 32 x → toUnsigned 32 x ≡ 2 ^ 32 - 1
-all _ ge-inf = too-large 32 (inf false) nlt-inf (at-least-not-nan 32 (inf false) ge-inf)
-all _ (ge-fin m e g) = too-large 32 (fin false m e) (nlt-fin m e g) (at-least-not-nan 32 (fin false m e) (ge-fin m e g))
+all _ ge-inf = too-large 32 (inf false) nlt-inf (at-least-no-nan 32 (inf false) ge-inf)
+all _ (ge-fin m e g) = too-large 32 (fin false m e) (nlt-fin m e g) (at-least-no-nan 32 (fin false m e) (ge-fin m e g))
 
-pub far-all : (l : Float) → le (fin false 1 (pos 6)) l ≡ true → toUnsigned 32 (l ⊗ scale) ≡ 2 ^ 32 - 1
+pub far-all : (l : Float) → le (fin false 1 (pos 6)) l ≡ true → toUnsigned 32 (l ⊗ per-turn) ≡ 2 ^ 32 - 1
 unfolding mul round
 far-all l h = go l h (at-least 6 l h)
   where
-    go : (x : Float) → le (fin false 1 (pos 6)) x ≡ true → AtLeast 6 x → toUnsigned 32 (x ⊗ scale) ≡ 2 ^ 32 - 1
+    go : (x : Float) → le (fin false 1 (pos 6)) x ≡ true → AtLeast 6 x → toUnsigned 32 (x ⊗ per-turn) ≡ 2 ^ 32 - 1
     go _ k ge-inf = all (inf false) ge-inf
     go _ k (ge-fin m e g) =
         let p : T (positive (fin false m e)) = lt→ltb 0 m (first-pos m (up e) (let d = down-pos e in omega arith)) in
-        all (fin false m e ⊗ scale) (at-least 32 (fin false m e ⊗ scale) (is-true (le (fin false 1 (pos 32)) (fin false m e ⊗ scale)) (mul-mono binary32 (fin false 1 (pos 6)) (fin false m e) scale scale tt p tt tt (subst T (sym k) tt) same-scale)))
+        all (fin false m e ⊗ per-turn) (at-least 32 (fin false m e ⊗ per-turn) (is-true (le (fin false 1 (pos 32)) (fin false m e ⊗ per-turn)) (mul-mono binary32 (fin false 1 (pos 6)) (fin false m e) per-turn per-turn tt p tt tt (subst T (sym k) tt) same-per-turn)))
 
 -- ---- by the code's test
 

@@ -19,7 +19,7 @@ use mir.ValLaws.{toZ-pos}
 use Rattle.numbers.specs.F32.{_⊕_, _⊗_}
 use Rattle.numbers.proofs.Views.{on, AtLeast, ge-fin, Under, lt-fin}
 use Rattle.numbers.proofs.Casts.{no-fraction, digits-lt}
-use Rattle.sine.proofs.Near.{lift, scale, lowest, highest, Within, near-within, within-whole, within-below}
+use Rattle.sine.proofs.Near.{lift, per-turn, lowest, highest, Within, near-within, within-whole, within-below}
 
 -- a turn in the phase's steps
 abbrev pub turn : Float
@@ -27,11 +27,11 @@ turn = fin false 1 (pos 32)
 
 -- ---- what a whole number is cast to
 
-pub value-number : (x : Float) (n : ℕ) → HasValue x false n 1 → isNan x ≡ false
+pub value-no-nan : (x : Float) (n : ℕ) → HasValue x false n 1 → isNan x ≡ false
 unfolding isNan
-value-number nan n v = absurd v
-value-number (inf s) n v = absurd v
-value-number (fin s m e) n v = refl
+value-no-nan nan n v = absurd v
+value-no-nan (inf s) n v = absurd v
+value-no-nan (fin s m e) n v = refl
 
 quotient : (m n : ℕ) (e : ℤ) → m * up e * 1 ≡ n * down e → (m * up e / down e ≡ n) × (m * up e % down e ≡ 0)
 quotient m n e v =
@@ -125,15 +125,15 @@ normal : (n d u : ℕ) → d ≤ n → 0 < u → 2 ^ 23 * (d * 1) ≤ n * 2 ^ 26
 normal n d u h p = let z = mul-le-mul-left (n * 2 ^ 26) p in omega arith
 
 module _ (l : Float) (p : T (positive l)) (h : den l ≤ num l) where
-  scaled-is : l ⊗ scale ≡ round binary32 false (num l * 2 ^ 26) (den l * 1)
-  scaled-is = mul-at binary32 l scale (num l) (den l) (2 ^ 26) 1 p tt (den-pos l) (omega arith) (own-value l p) (refl, refl)
+  scaled-is : l ⊗ per-turn ≡ round binary32 false (num l * 2 ^ 26) (den l * 1)
+  scaled-is = mul-at binary32 l per-turn (num l) (den l) (2 ^ 26) 1 p tt (den-pos l) (omega arith) (own-value l p) (refl, refl)
 
   turned-is : l ⊗ turn ≡ round binary32 false (num l * 2 ^ 26 * 2 ^ 6) (den l * 1)
   turned-is =
       mul-at binary32 l turn (num l) (den l) (2 ^ 32) 1 p tt (den-pos l) (omega arith) (own-value l p) (refl, refl)
       ∙ ap (λ (n : ℕ). round binary32 false n (den l * 1)) (sym (mul-assoc (num l) (2 ^ 26) (2 ^ 6)))
 
-  turned-value : (n : ℕ) → T (finite (l ⊗ scale)) → T (finite (l ⊗ turn)) → HasValue (l ⊗ scale) false n 1 → HasValue (l ⊗ turn) false (n * 2 ^ 6) 1
+  turned-value : (n : ℕ) → T (finite (l ⊗ per-turn)) → T (finite (l ⊗ turn)) → HasValue (l ⊗ per-turn) false n 1 → HasValue (l ⊗ turn) false (n * 2 ^ 6) 1
   turned-value n s t v =
       let a = num l * 2 ^ 26 in
       let c = den l * 1 in
@@ -146,24 +146,24 @@ module _ (l : Float) (p : T (positive l)) (h : den l ≤ num l) where
 
 -- what the cast of the product with 2 ^ 32 takes, and gives
 pub record Turned (x : Float) (steps : ℕ) : Type 0 where
-  pub number : isNan x ≡ false
+  pub no-nan : isNan x ≡ false
   pub accepted : T (inSigned binary64 63 x)
   pub cast : toZ w64 (ofZ w64 (toSigned 63 x)) ≡ pos (steps * 64)
   pub small : steps * 64 < 2 ^ 64
 
-pub near-turned : (pm : Float) → (le (fin true 31 (pos 0)) pm && le pm (fin false 15 (pos 1))) ≡ true → Turned ((pm ⊕ lift) ⊗ turn) (toUnsigned 32 ((pm ⊕ lift) ⊗ scale))
+pub near-turned : (pm : Float) → (le (fin true 31 (pos 0)) pm && le pm (fin false 15 (pos 1))) ≡ true → Turned ((pm ⊕ lift) ⊗ turn) (toUnsigned 32 ((pm ⊕ lift) ⊗ per-turn))
 near-turned pm h = go (pm ⊕ lift) (near-within pm h)
   where
-    go : (l : Float) → Within l → Turned (l ⊗ turn) (toUnsigned 32 (l ⊗ scale))
-    go l w = finish (large-whole (l ⊗ scale) (mul-fits binary32 l scale) (within-whole l w) (within-below l w))
+    go : (l : Float) → Within l → Turned (l ⊗ turn) (toUnsigned 32 (l ⊗ per-turn))
+    go l w = finish (large-whole (l ⊗ per-turn) (mul-fits binary32 l per-turn) (within-whole l w) (within-below l w))
       where
-        finish : Whole (l ⊗ scale) → Turned (l ⊗ turn) (toUnsigned 32 (l ⊗ scale))
+        finish : Whole (l ⊗ per-turn) → Turned (l ⊗ turn) (toUnsigned 32 (l ⊗ per-turn))
         finish (is-whole _ n b v) =
             let o = at-least-one l w in
-            let t = turned-value l (o .0) (o .1) n (large-finite (l ⊗ scale) (within-whole l w) (within-below l w)) (turn-finite l w) v in
-            let e = value-cast 32 n (l ⊗ scale) v b in
+            let t = turned-value l (o .0) (o .1) n (large-finite (l ⊗ per-turn) (within-whole l w) (within-below l w)) (turn-finite l w) v in
+            let e = value-cast 32 n (l ⊗ per-turn) v b in
             record {
-              number = value-number (l ⊗ turn) (n * 2 ^ 6) t;
+              no-nan = value-no-nan (l ⊗ turn) (n * 2 ^ 6) t;
               accepted = value-in 63 (n * 2 ^ 6) (l ⊗ turn) t (omega arith) (omega arith);
               cast = rw (value-signed 63 (n * 2 ^ 6) (l ⊗ turn) t (omega arith), e) (toZ-pos w64 (n * 64) (omega arith));
               small = rw e (omega arith);

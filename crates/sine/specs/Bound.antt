@@ -1,4 +1,5 @@
--- What every entry of the sine table is, and every way to the next: finite and between -1 and 1. Definitions only.
+-- What every entry of the sine table is, and every way to the next: finite and between -1 and 1. Definitions only, that
+-- theorems speak in.
 use mathlib.Core.Bool.{Bool, true, _&&_}
 use mathlib.Core.List.{List, [], _∷_}
 use lib.Ieee.{Float, le}

@@ -1,4 +1,5 @@
--- The sine table as pairs: an entry, and beside it the way to the next one, so that a lookup reads two neighbours. Definitions only.
+-- The sine table as pairs: an entry, and beside it the way to the next one, so that a lookup reads two neighbours.
+-- Definitions only, of a way of computing.
 use mathlib.Core.List.{List, [], _∷_}
 use Prim.Native.Nat.{ℕ, zero, suc}
 use lib.Ieee.{Float}

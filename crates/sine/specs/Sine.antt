@@ -1,4 +1,5 @@
--- The sine by lookup, one rounding per written operation, in the Rust's order. Definitions only.
+-- The sine by lookup, one rounding per written operation, in the Rust's order. Definitions only, to be believed, but
+-- for `nearBy` and what speaks of pairs: these are a way of computing the same.
 use mathlib.Core.Bool.{Bool, _&&_}
 use mathlib.Core.List.{List}
 use Prim.Native.Nat.{ℕ, _+_, _*_, _/_, _^_}
@@ -24,14 +25,16 @@ nearBy pm = le (minusDecimal 31 0) pm && le pm (decimal 30 0)
 unfoldable pub modulated : ℕ → Float → ℕ
 modulated phase pm = sum32 phase (product32 (stepsOf pm) 64)
 
--- the straight line between two entries of the table: a phase's highest nine bits name the first, the others say how far on
+-- the straight line between two entries of the table: a phase's highest nine bits name the first, the others say how
+-- far on
 unfoldable pub entryLine : List Float → ℕ → Float
 entryLine lut phase =
     let a = getD lut (phase / 2 ^ 23) nan in
     let b = getD lut (phase / 2 ^ 23 + 1) nan in
     a ⊕ (b ⊖ a) ⊗ (asFloat (shifted32 phase 9) ⊘ decimal 4294967296 0)
 
--- the same line from a table of pairs, an entry and the way to the next: over the pairs of a table it is that table's `entryLine` (`pairs-line`)
+-- the same line from a table of pairs, an entry and the way to the next: over the pairs of a table it is that table's
+-- `entryLine` (`pairs-line`)
 unfoldable pub phaseLine : List Float → ℕ → Float
 phaseLine pairs phase =
     let a = getD pairs (2 * (phase / 2 ^ 23)) nan in

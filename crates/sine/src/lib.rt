@@ -53,9 +53,9 @@ fn modulate(phase: u32, pm: f32) -> u32
     numbers::wrapping_add_u32(phase, turned(pm))
 }
 
-// A modulation in the phase's own steps, of which 64 make one of `steps`, wrapped. From -31 to 30 turns they are whole already: this
-// is the innermost loop's path, with a test that need not wait for the sum, and one conversion that multiplies as well. The cast is
-// to i64, which every processor has as one instruction.
+// A modulation in the phase's own steps, of which 64 make one of `steps`, wrapped. From -31 to 30 turns they are whole
+// already: this is the innermost loop's path, with a test that need not wait for the sum, and one conversion that
+// multiplies as well. The cast is to i64, which every processor has as one instruction.
 fn turned(pm: f32) -> u32
     ensures { λ r. ⌜ r ≡ product32 (stepsOf pm) 64 ⌝ }
 {
@@ -74,7 +74,8 @@ pub fn is_near(pm: f32) -> bool
     (pm >= -31.0) & (pm <= 30.0)
 }
 
-// The phase plus a modulation from -31 to 30 turns, wrapped: no test and a cast to i32, so that a loop of it is done four samples at a time.
+// The phase plus a modulation from -31 to 30 turns, wrapped: no test and a cast to i32, so that a loop of it is done
+// four samples at a time.
 pub fn modulate_near(phase: u32, pm: f32) -> u32
     requires { ⌜ nearBy pm ≡ true ⌝ }
     ensures { λ r. ⌜ r ≡ modulated phase pm ⌝ }
@@ -95,12 +96,12 @@ fn turned_near(pm: f32) -> u32
 fn steps(pm: f32) -> u32
     ensures { λ r. ⌜ r ≡ stepsOf pm ⌝ }
 {
-    let scale = 4294967296.0 / 64.0;
+    let per_turn = 4294967296.0 / 64.0;
     let lifted = pm + 32.0;
     if lifted >= 64.0 {
         return u32::MAX;
     }
-    numbers::f32_as_u32(lifted * scale)
+    numbers::f32_as_u32(lifted * per_turn)
 }
 
 // The straight line from the entry at a phase towards the next. The phase's lowest 23 bits over 2^23 are an

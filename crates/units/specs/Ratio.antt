@@ -1,4 +1,5 @@
--- The ratio that a number of semitones makes, one rounding per written operation, in the Rust's order. Definitions only.
+-- The ratio that a number of semitones makes, one rounding per written operation, in the Rust's order. Definitions
+-- only, all to be believed.
 use mathlib.Core.Bool.{Bool, _&&_, cond}
 use mathlib.Core.List.{List}
 use Prim.Native.Nat.{ℕ}

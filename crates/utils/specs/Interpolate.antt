@@ -1,4 +1,5 @@
--- Lookups in a table of f32, one rounding per written operation, in the Rust's order. Definitions only.
+-- Lookups in a table of f32, one rounding per written operation, in the Rust's order. Definitions only, all to be
+-- believed.
 use mathlib.Core.Bool.{cond}
 use mathlib.Core.List.{List}
 use Prim.Native.Nat.{_+_, _-_}

@@ -4,22 +4,24 @@ use mathlib.Core.Bool.{true}
 use mathlib.Core.Path.{_≡_, sym, _∙_}
 use lib.Ieee.{ofBits}
 use Rattle.numbers.specs.F32.{decimal}
-use Rattle.dx_units.specs.Answers.{keyboardFits, keyboardScalingAnswer}
+use Rattle.patch.specs.Packed.{scalingFits}
+use Rattle.dx_units.specs.Answers.{scalingOf, keyboardScalingAnswer}
 use Rattle.dx_units.proofs.Refusals.{field-first, parameter-inside, parameter-above, parameter-below}
 use borrow.Author.Needs.{needs}
 use Rattle.dx_units.proofs.keyboard_scaling.Statement.{statement}
 use Rattle.dx_units.proofs.keyboard_scaling.Tie as tie
 
-fit : (c : tie.Else1) → keyboardFits (c .before .before .args .left-depth) (c .before .before .args .right-depth) (c .before .before .args .left-curve)
-    (c .before .before .args .right-curve) (c .before .before .args .break-point) ≡ true
-fit c = sym (c .before .keyboard-fits .ensures) ∙ not-false _ (c .if1 .left)
+fit : (c : tie.Else1)
+    → let a = c .before .before .args in
+    scalingFits (scalingOf (a .left-depth) (a .right-depth) (a .left-curve) (a .right-curve) (a .break-point)) ≡ true
+fit c = sym (c .before .scaling-fits .ensures) ∙ not-false _ (c .if1 .left)
 
-keyboard-fits-requires : tie.Need-keyboard-fits-requires
-keyboard-fits-requires c κs = search needs
+scaling-fits-requires : tie.Need-scaling-fits-requires
+scaling-fits-requires c κs = search needs
 
 returns : tie.Need-returns
 unfolding keyboardScalingAnswer
-returns c = field-first _ _ _ (sym (c .before .keyboard-fits .ensures) ∙ not-true _ (c .if1 .taken))
+returns c = field-first _ _ _ (sym (c .before .scaling-fits .ensures) ∙ not-true _ (c .if1 .taken))
 
 keyboard-scaling-requires : tie.Need-keyboard-scaling-requires
 keyboard-scaling-requires c κs = search needs
@@ -48,7 +50,7 @@ pub keyboard-scaling-spec : {M : Type 1} → statement M
 keyboard-scaling-spec =
     tie.close
     (tie.spec
-    keyboard-fits-requires
+    scaling-fits-requires
     returns
     keyboard-scaling-requires
     returns-2

@@ -4,7 +4,7 @@ use lib.IntN.{pos}
 use lib.Ieee.{Float, ofBits}
 use Rattle.numbers.specs.F32.{_⊕_, _⊗_, decimal}
 use Rattle.numbers.proofs.Signed.{back}
-use Rattle.numbers.proofs.Casts.{fast-in, at-least-number, widens}
+use Rattle.numbers.proofs.Casts.{fast-in, at-least-no-nan, widens}
 use Rattle.dx_units_power.proofs.Orders.{first-order}
 use Rattle.dx_units_power.proofs.Reach.{a-pattern, pattern-whole, pattern-below, no-nan, in-one-cast}
 use borrow.Author.Needs.{needs}
@@ -18,7 +18,7 @@ float-to-float-result : tie.Need-float-to-float-result
 unfolding decimal ofBits
 float-to-float-result c =
     let y = product (c .before .before .args .x) in
-    widens y (c .row-known .given) (at-least-number 23 y (pattern-whole y (a-pattern y (c .before .if1 .taken))))
+    widens y (c .row-known .given) (at-least-no-nan 23 y (pattern-whole y (a-pattern y (c .before .if1 .taken))))
 
 float-to-int-result : tie.Need-float-to-int-result
 unfolding decimal ofBits

@@ -6,7 +6,7 @@ use lib.Ieee.Casts.{toUnsigned-lt}
 use native.Mathlib.Omega.{arith}
 use borrow.Author.Needs.{needs}
 use Rattle.numbers.proofs.Views.{at-least, not-at-least, under, not-under, not-above-neg}
-use Rattle.numbers.proofs.Casts.{fast-in, at-least-number, at-least-not-nan, widens, too-large, narrows, negative, small-enough}
+use Rattle.numbers.proofs.Casts.{fast-in, at-least-no-nan, widens, too-large, narrows, negative, small-enough}
 use Rattle.numbers.proofs.f32_as_u32.Statement.{statement}
 use Rattle.numbers.proofs.f32_as_u32.Tie as tie
 
@@ -15,7 +15,7 @@ unfolding ofBits
 float-to-float-result c =
     let at-start = c .before .before .before in
     let x = at-start .args .x in
-    widens x (c .row-known .given) (at-least-number 23 x (at-least 23 x (c .before .before .if1 .taken)))
+    widens x (c .row-known .given) (at-least-no-nan 23 x (at-least 23 x (c .before .before .if1 .taken)))
 
 float-to-int-result : tie.Need-float-to-int-result
 unfolding ofBits
@@ -33,7 +33,7 @@ returns-2 : tie.Need-returns-2
 unfolding ofBits
 returns-2 c =
     let x = c .before .before .args .x in
-    sym (too-large 32 x (not-under 32 x (c .if2 .left)) (at-least-not-nan 23 x (at-least 23 x (c .before .if1 .taken))))
+    sym (too-large 32 x (not-under 32 x (c .if2 .left)) (at-least-no-nan 23 x (at-least 23 x (c .before .if1 .taken))))
 
 truncating-f32-to-u64-requires : tie.Need-truncating-f32-to-u64-requires
 unfolding ofBits neg

@@ -3,7 +3,7 @@ use mathlib.Core.Path.{sym, subst}
 use lib.Dec.{T}
 use lib.Ieee.{ofBits, neg}
 use Rattle.numbers.proofs.Views.{at-least, not-at-least, not-under, not-above-neg}
-use Rattle.numbers.proofs.Casts.{too-large, negative, at-least-not-nan, neither-unsigned}
+use Rattle.numbers.proofs.Casts.{too-large, negative, at-least-no-nan, neither-unsigned}
 use borrow.Author.Needs.{needs}
 use Rattle.numbers.proofs.f32_as_usize.Statement.{statement}
 use Rattle.numbers.proofs.f32_as_usize.Tie as tie
@@ -25,7 +25,7 @@ returns-3 : tie.Need-returns-3
 unfolding ofBits
 returns-3 c =
     let x = c .before .before .args .x in
-    sym (too-large 64 x (not-under 64 x (c .before .if1 .left)) (at-least-not-nan 64 x (at-least 64 x (c .if3 .taken))))
+    sym (too-large 64 x (not-under 64 x (c .before .if1 .left)) (at-least-no-nan 64 x (at-least 64 x (c .if3 .taken))))
 
 returns-4 : tie.Need-returns-4
 unfolding ofBits

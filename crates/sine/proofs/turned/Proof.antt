@@ -20,7 +20,7 @@ float-to-float-turns : tie.Need-float-to-float-turns
 unfolding ofBits neg
 float-to-float-turns c =
     let pm = c .before .before .args .pm in
-    widens ((pm ⊕ lift) ⊗ turn) (c .row-known .given) (near-turned pm (c .before .if1 .taken) .number)
+    widens ((pm ⊕ lift) ⊗ turn) (c .row-known .given) (near-turned pm (c .before .if1 .taken) .no-nan)
 
 float-to-int-turns : tie.Need-float-to-int-turns
 unfolding ofBits neg

@@ -20,7 +20,7 @@ float-to-float-halves : tie.Need-float-to-float-halves
 unfolding ofBits neg nearBy decimal minusDecimal div round
 float-to-float-halves c =
     let pm = c .before .args .pm in
-    widens ((pm ⊕ lift) ⊗ half) (c .row-known .given) (near-halved pm (c .before .pre) .number)
+    widens ((pm ⊕ lift) ⊗ half) (c .row-known .given) (near-halved pm (c .before .pre) .no-nan)
 
 float-to-int-halves : tie.Need-float-to-int-halves
 unfolding ofBits neg nearBy decimal minusDecimal div round
