@@ -1,4 +1,5 @@
--- The worked cases of document 01, P1 to P15, as rows of one list. A kind of row has a constructor and a line of `Holds`. Definitions only.
+-- The worked cases of document 01, P1 to P15, as rows of one list. A kind of row has a constructor and a line of
+-- `Holds`. Definitions only, all to be believed.
 use mathlib.Core.Path.{_≡_}
 use mathlib.Core.List.{List, [], _∷_}
 use Prim.Native.Nat.{ℕ, _^_}
@@ -38,7 +39,8 @@ Holds (operatorLevel n answer) = operatorLevelAnswer n ≡ answer
 Holds (envelopeRate n answer) = operatorEnvelopeIncrementAnswer n ≡ answer
 Holds (step frequency answer) = stepFor frequency ≡ answer
 Holds (phasePlus phase by answer) = sum32 phase by ≡ answer
-Holds (rowAccepted row calls) = (planOf row .number ≡ 0) × (take (planOf row .plan .count) (planOf row .plan .calls) ≡ calls)
+Holds (rowAccepted row calls) =
+    (planOf row .number ≡ 0) × (take (planOf row .plan .count) (planOf row .plan .calls) ≡ calls)
 Holds (rowRefused row number at) = planOf row ≡ refusal number at
 
 -- every row of a list holds
@@ -67,7 +69,8 @@ cases =
     ∷ step (minusDecimal 25 2) 0  -- P10
     ∷ step nan (2 ^ 31)  -- P11
     ∷ phasePlus (2 ^ 31) (2 ^ 31) 0  -- P12
-    ∷ rowAccepted (0x71 ∷ 0x14 ∷ 0x01 ∷ 0x14 ∷ []) (sets 0 1 3 1 ∷ adds 1 1 1 0 ∷ sets 2 1 0 1 ∷ adds 3 1 1 0 ∷ [])  -- P13
+    ∷ rowAccepted (0x71 ∷ 0x14 ∷ 0x01 ∷ 0x14 ∷ [])  -- P13
+    (sets 0 1 3 1 ∷ adds 1 1 1 0 ∷ sets 2 1 0 1 ∷ adds 3 1 1 0 ∷ [])
     ∷ rowRefused (0x31 ∷ 0x11 ∷ 0x54 ∷ 0x04 ∷ []) 3 0  -- P14
     ∷ rowRefused (0x11 ∷ 0x01 ∷ 0x11 ∷ 0x14 ∷ []) 4 0  -- P15
     ∷ []
