@@ -1,16 +1,17 @@
 -- What an entry answers, by its tests, over plain variables. Assumes nothing.
-use mathlib.Core.Path.{_≡_, sym, subst}
+use mathlib.Core.Path.{_≡_, sym, subst, _∙_}
 use mathlib.Core.Bool.{Bool, true, false, _&&_, and-assoc, and-true}
 use Prim.Native.Nat.{ℕ, _≤_, _<_}
 use borrow.Author.Tests.{le-leb, lt-leb}
 use lib.Dec.{T, leb, leb→le}
 use lib.Ieee.Fits.{and-l, and-r}
-use lib.Ieee.{Float, le}
+use lib.Ieee.{Float}
 use Rattle.numbers.specs.F32.{decimal}
 use Rattle.dx_units.specs.declared.Converted.the-variants.{Value, Refused}
 use Rattle.patch.specs.Packed.{within, scalingFits}
 use Rattle.patch.specs.Form.{scalingNumber}
 use Rattle.patch.specs.Layout.{scalingField, scalingNames}
+use Rattle.patch_limits.specs.Ranges.{between}
 use Rattle.dx_units.specs.Answers.{fieldNumber, parameterNumber, firstOf, convertedFor, scalingOf, frequencyFits}
 
 -- a field alone: 6 above its largest number
@@ -25,16 +26,13 @@ pub field-first : (fits : Bool) (m : ℕ) (v : Float) → fits ≡ false → Ref
 field-first fits m v e = simp e
 
 module _ (fits : Bool) (x : Float) (largest : ℕ) (v : Float) (e : fits ≡ true) where
-  pub parameter-inside : {r : Float} → le (decimal 0 0) x ≡ true → le x (decimal largest 0) ≡ true → r ≡ v
+  pub parameter-inside : {t : Bool} {r : Float} → t ≡ between (decimal 0 0) (decimal largest 0) x → t ≡ true → r ≡ v
       → Value r ≡ convertedFor (firstOf (fieldNumber fits) (parameterNumber x largest)) v
-  parameter-inside l h er = simp (e, l, h, er)
+  parameter-inside et h er = simp (e, sym et ∙ h, er)
 
-  pub parameter-above : le (decimal 0 0) x ≡ true → le x (decimal largest 0) ≡ false
+  pub parameter-outside : {t : Bool} → t ≡ between (decimal 0 0) (decimal largest 0) x → t ≡ false
       → Refused 7 ≡ convertedFor (firstOf (fieldNumber fits) (parameterNumber x largest)) v
-  parameter-above l h = simp (e, l, h)
-
-  pub parameter-below : le (decimal 0 0) x ≡ false → Refused 7 ≡ convertedFor (firstOf (fieldNumber fits) (parameterNumber x largest)) v
-  parameter-below l = simp (e, l)
+  parameter-outside et h = simp (e, sym et ∙ h)
 
 -- the five numbers of keyboard scaling that fit, one by one
 pub five-fit : (leftDepth rightDepth leftCurve rightCurve breakPoint : ℕ)

@@ -3,7 +3,7 @@
 use mathlib.Core.Bool.{Bool, _&&_, cond}
 use Prim.Native.Nat.{ℕ, zero, suc}
 use lib.Dec.{leb}
-use lib.Ieee.{Float, le}
+use lib.Ieee.{Float}
 use Rattle.numbers.specs.F32.{decimal}
 use Rattle.units.specs.Tables.{lutPitchRatioHigh, lutPitchRatioLow}
 use Rattle.dx_units.specs.declared.Level.{Level}
@@ -21,6 +21,7 @@ use Rattle.dx_units_inner.specs.Units.{pitchEnvelopeIncrement, lfoFrequency, lf
 use Rattle.dx_units_inner.specs.Units.{ampModSensitivity, pitchModSensitivity, keyboardScaling, frequencyRatio}
 use Rattle.patch.specs.declared.KeyboardScaling.{KeyboardScaling}
 use Rattle.patch.specs.Packed.{scalingFits}
+use Rattle.patch_limits.specs.Ranges.{between}
 
 -- ---- the number of an answer: 0 where nothing is refused
 
@@ -30,7 +31,7 @@ fieldNumber fits = cond fits 0 6
 
 -- 7 for a parameter that is a NaN or outside 0 to its largest
 abbrev pub parameterNumber : Float → ℕ → ℕ
-parameterNumber x largest = cond (le (decimal 0 0) x && le x (decimal largest 0)) 0 7
+parameterNumber x largest = cond (between (decimal 0 0) (decimal largest 0) x) 0 7
 
 -- the first that is not 0, in ascending order
 abbrev pub firstOf : ℕ → ℕ → ℕ

@@ -105,10 +105,8 @@ pub fn lfo_delay(delay: u8) -> Delay
 pub fn normalize_velocity(velocity: f32) -> Converted
     ensures { λ r. ⌜ r ≡ normalizeVelocityAnswer velocity ⌝ }
 {
-    if velocity >= 0.0 {
-        if velocity <= 1.0 {
-            return Converted::Value(dx_units_inner::normalize_velocity(velocity));
-        }
+    if patch_limits::between(0.0, 1.0, velocity) {
+        return Converted::Value(dx_units_inner::normalize_velocity(velocity));
     }
     Converted::Refused(7)
 }
@@ -120,10 +118,8 @@ pub fn rate_scaling(note: f32, scaling: u8) -> Converted
     if scaling > 7 {
         return Converted::Refused(6);
     }
-    if note >= 0.0 {
-        if note <= 127.0 {
-            return Converted::Value(dx_units_inner::rate_scaling(note, scaling));
-        }
+    if patch_limits::between(0.0, 127.0, note) {
+        return Converted::Value(dx_units_inner::rate_scaling(note, scaling));
     }
     Converted::Refused(7)
 }
@@ -171,17 +167,15 @@ pub fn keyboard_scaling(
     if !patch_limits::scaling_fits(scaling) {
         return Converted::Refused(6);
     }
-    if note >= 0.0 {
-        if note <= 127.0 {
-            return Converted::Value(dx_units_inner::keyboard_scaling(
-                note,
-                left_depth,
-                right_depth,
-                left_curve,
-                right_curve,
-                break_point,
-            ));
-        }
+    if patch_limits::between(0.0, 127.0, note) {
+        return Converted::Value(dx_units_inner::keyboard_scaling(
+            note,
+            left_depth,
+            right_depth,
+            left_curve,
+            right_curve,
+            break_point,
+        ));
     }
     Converted::Refused(7)
 }

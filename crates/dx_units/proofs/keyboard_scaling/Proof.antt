@@ -6,7 +6,7 @@ use lib.Ieee.{ofBits}
 use Rattle.numbers.specs.F32.{decimal}
 use Rattle.patch.specs.Packed.{scalingFits}
 use Rattle.dx_units.specs.Answers.{scalingOf, keyboardScalingAnswer}
-use Rattle.dx_units.proofs.Refusals.{field-first, parameter-inside, parameter-above, parameter-below}
+use Rattle.dx_units.proofs.Refusals.{field-first, parameter-inside, parameter-outside}
 use borrow.Author.Needs.{needs}
 use Rattle.dx_units.proofs.keyboard_scaling.Statement.{statement}
 use Rattle.dx_units.proofs.keyboard_scaling.Tie as tie
@@ -23,36 +23,28 @@ returns : tie.Need-returns
 unfolding keyboardScalingAnswer
 returns c = field-first _ _ _ (sym (c .before .scaling-fits .ensures) ∙ not-true _ (c .if1 .taken))
 
+between-requires : tie.Need-between-requires
+between-requires c κs = search needs
+
 keyboard-scaling-requires : tie.Need-keyboard-scaling-requires
 keyboard-scaling-requires c κs = search needs
 
 returns-2 : tie.Need-returns-2
 unfolding keyboardScalingAnswer decimal ofBits
 returns-2 c =
-    let far = c .before .before .before in
-    let at-start = far .before .before in
-    parameter-inside _ (at-start .args .note) 127 _ (fit (far)) (c .before .before .if2 .taken) (c .before .if3 .taken)
-    (c .keyboard-scaling .ensures)
+    let at-between = c .before .before in
+    let at-fit = at-between .before in
+    parameter-inside _ (at-fit .before .before .args .note) 127 _ (fit at-fit) (at-between .between .ensures)
+    (c .before .if2 .taken) (c .keyboard-scaling .ensures)
 
 returns-3 : tie.Need-returns-3
 unfolding keyboardScalingAnswer decimal ofBits
 returns-3 c =
-    let at-start = c .before .before .before .before in
-    parameter-above _ (at-start .args .note) 127 _ (fit (c .before .before)) (c .before .if2 .taken) (c .if3 .left)
-
-returns-4 : tie.Need-returns-4
-unfolding keyboardScalingAnswer decimal ofBits
-returns-4 c =
-    let at-start = c .before .before .before in
-    parameter-below _ (at-start .args .note) 127 _ (fit (c .before)) (c .if2 .left)
+    let at-fit = c .before .before in
+    parameter-outside _ (at-fit .before .before .args .note) 127 _ (fit at-fit) (c .before .between .ensures)
+    (c .if2 .left)
 
 pub keyboard-scaling-spec : {M : Type 1} → statement M
 keyboard-scaling-spec =
     tie.close
-    (tie.spec
-    scaling-fits-requires
-    returns
-    keyboard-scaling-requires
-    returns-2
-    returns-3
-    returns-4)
+    (tie.spec scaling-fits-requires returns between-requires keyboard-scaling-requires returns-2 returns-3)
