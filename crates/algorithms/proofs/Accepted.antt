@@ -1,5 +1,5 @@
--- What every plan of a row keeps to, by one walk along the row, and what an accepted one does; then, that each operator is in exactly one call.
--- Assumes nothing.
+-- What every plan of a row keeps to, by one walk along the row, and what an accepted one does; then, that each
+-- operator is in exactly one call. Assumes nothing.
 use mathlib.Core.Path.{_≡_, refl, sym, ap, subst, _∙_}
 use mathlib.Core.Bool.{Bool, true, false, cond, not, _&&_, _||_, true≢false, false≢true, and-eq-true-iff}
 use mathlib.Core.Logic.{_⊎_, inl, inr, ⊎-elim}
@@ -16,7 +16,8 @@ use borrow.Author.Tests.{eqb-true, eqb-false}
 use Rattle.algorithms.specs.Opcode.{source, adding}
 use Rattle.algorithms.specs.Chain.{Modulation, originFrom, modulation, known, renders, callLength, rendered}
 use Rattle.algorithms.specs.Chain.Modulation.{unmodulated, external, feedback, originless}
-use Rattle.algorithms.specs.Plan.{callOf, noCall, noPlan, reading, ready, unready, extended, refusal, planFrom, counted, planned}
+use Rattle.algorithms.specs.Plan.{callOf, noCall, noPlan, reading, ready, unready, extended, refusal, planFrom}
+use Rattle.algorithms.specs.Plan.{counted, planned}
 use Rattle.algorithms.specs.Accepted.{covered, Covering, In, Safe, Sound}
 use Rattle.algorithms.specs.declared.Call.{Call}
 use Rattle.algorithms.specs.declared.Plan.{Plan}
@@ -40,7 +41,9 @@ record Fed (operators n j : ℕ) (add : Bool) : Type 0 where
 
 fed-known : (operators n j : ℕ) (add : Bool) → known operators n (feedback j) add ≡ true → Fed operators n j add
 unfolding known
-fed-known operators n j add e = ⊎-elim (λ z. single (both-equal n 1 j 0 z)) chain (or-cases (eqb n 1 && eqb j 0) (eqb operators 6 && (add && ((eqb n 3 && eqb j 2) || (eqb n 2 && eqb j 1)))) e)
+fed-known operators n j add e =
+    ⊎-elim (λ z. single (both-equal n 1 j 0 z)) chain
+    (or-cases (eqb n 1 && eqb j 0) (eqb operators 6 && (add && ((eqb n 3 && eqb j 2) || (eqb n 2 && eqb j 1)))) e)
   where
     single : (n ≡ 1) × (j ≡ 0) → Fed operators n j add
     single z = record { origin = omega arith; chain = inl (z .0) }
@@ -64,7 +67,8 @@ pub origin-last : (operators n j : ℕ) (add : Bool) → known operators n (feed
 origin-last operators n j add e = fed-known operators n j add e .origin
 
 -- a renderer is for one operator or has feedback
-known-cases : (operators n : ℕ) (m : Modulation) (add : Bool) → known operators n m add ≡ true → (n ≡ 1) ⊎ ((m ≡ feedback (n - 1)) × (operators ≡ 6) × (n ≤ 3) × (add ≡ true))
+known-cases : (operators n : ℕ) (m : Modulation) (add : Bool) → known operators n m add ≡ true
+    → (n ≡ 1) ⊎ ((m ≡ feedback (n - 1)) × (operators ≡ 6) × (n ≤ 3) × (add ≡ true))
 unfolding known
 known-cases operators n unmodulated add e = inl (eqb-true n 1 e)
 known-cases operators n external add e = inl (eqb-true n 1 e)
@@ -79,21 +83,26 @@ known-cases operators n originless add e = absurd (false≢true e)
 fed-source : (o n j : ℕ) (os : List ℕ) → 1 ≤ n → modulation (take n (o ∷ os)) ≡ feedback j → source o ≡ 3
 fed-source o n j os h e = pick (eqb (source o) 0) (eqb (source o) 3) refl (sym (modulation-first o n os h) ∙ e)
   where
-    pick : (b d : Bool) → eqb (source o) 3 ≡ d → cond b unmodulated (cond d (originFrom 0 originless (take n (o ∷ os))) external) ≡ feedback j → source o ≡ 3
+    pick : (b d : Bool) → eqb (source o) 3 ≡ d
+        → cond b unmodulated (cond d (originFrom 0 originless (take n (o ∷ os))) external) ≡ feedback j → source o ≡ 3
     pick true d f e = let z : _≡_ {A = ℕ} 0 1 = cc in absurd (omega arith)
     pick false true f e = eqb-true (source o) 3 f
     pick false false f e = let z : _≡_ {A = ℕ} 0 1 = cc in absurd (omega arith)
 
 -- a call with operators has a renderer
-renders-call : (operators : ℕ) (os : List ℕ) → (rendered operators os ≡ 0 → ⊥) → renders operators os (rendered operators os) ≡ true
+renders-call : (operators : ℕ) (os : List ℕ) → (rendered operators os ≡ 0 → ⊥)
+    → renders operators os (rendered operators os) ≡ true
 unfolding rendered
 renders-call operators os h = pick (renders operators os (callLength operators os)) refl h
   where
-    pick : (b : Bool) → renders operators os (callLength operators os) ≡ b → (cond b (callLength operators os) 0 ≡ 0 → ⊥) → renders operators os (cond b (callLength operators os) 0) ≡ true
+    pick : (b : Bool) → renders operators os (callLength operators os) ≡ b
+        → (cond b (callLength operators os) 0 ≡ 0 → ⊥)
+        → renders operators os (cond b (callLength operators os) 0) ≡ true
     pick true e h = e
     pick false e h = absurd (h refl)
 
-call-sound : (operators first o : ℕ) (os : List ℕ) (c : Call) → c ≡ callOf first (rendered operators (o ∷ os)) (o ∷ os) → (rendered operators (o ∷ os) ≡ 0 → ⊥)
+call-sound : (operators first o : ℕ) (os : List ℕ) (c : Call) → c ≡ callOf first (rendered operators (o ∷ os)) (o ∷ os)
+    → (rendered operators (o ∷ os) ≡ 0 → ⊥)
     → first + suc (length os) ≤ operators → Sound operators c
 unfolding callOf renders
 call-sound operators first o os c e h l =
@@ -134,7 +143,8 @@ good-start operators = record {
 }
 
 -- a call that passes reads and adds to ready buffers
-passes-safe : (r : ℕ → Bool) (c : Call) → unready r c ≡ false → (reading c ≡ true → r (c .input) ≡ true) × (c .add ≡ true → r (c .output) ≡ true)
+passes-safe : (r : ℕ → Bool) (c : Call) → unready r c ≡ false
+    → (reading c ≡ true → r (c .input) ≡ true) × (c .add ≡ true → r (c .output) ≡ true)
 unfolding unready
 passes-safe r c e = (λ z. pick₁ (reading c) (r (c .input)) (c .add && not (r (c .output))) z e, λ z. pick₂ (reading c && not (r (c .input))) (c .add) (r (c .output)) z e)
   where
@@ -186,8 +196,10 @@ module _ (cs : List Call) (m : ℕ) (c : Call) where
         }
 
 -- one call more
-good-more : (operators first n : ℕ) (p : Plan) (c : Call) → operators ≤ 6 → first < operators → c .first ≡ first → c .n ≡ n → 1 ≤ n → Sound operators c
-    → unready (ready (p .calls) (p .count)) c ≡ false → Good operators first p → Good operators (first + n) (extended p c)
+good-more : (operators first n : ℕ) (p : Plan) (c : Call) → operators ≤ 6 → first < operators → c .first ≡ first
+    → c .n ≡ n → 1 ≤ n → Sound operators c
+    → unready (ready (p .calls) (p .count)) c ≡ false → Good operators first p
+    → Good operators (first + n) (extended p c)
 unfolding extended covered
 good-more operators first n p c h i ef en some sound e g =
     let cs = p .calls in
@@ -202,11 +214,15 @@ good-more operators first n p c h i ef en some sound e g =
         starts = each-more (λ k. getD ds k noCall .first ≡ covered ds k) m
             (λ k z. rw (kept cs m c k z, covered-before cs m c k (omega arith)) (g .covering .starts k z))
             (rw (x, covered-before cs m c m (le-refl m)) (ef ∙ sym (g .covering .whole)));
-        some = each-more (λ k. 1 ≤ getD ds k noCall .n) m (λ k z. rw (kept cs m c k z) (g .covering .some k z)) (rw x (omega arith));
+        some =
+            each-more (λ k. 1 ≤ getD ds k noCall .n) m (λ k z. rw (kept cs m c k z) (g .covering .some k z))
+            (rw x (omega arith));
         whole = rw (add-one m, x, ef, en);
       };
       safe = each-more (λ k. Safe ds k) m (λ k z. safe-before cs m c k z (g .safe k z)) (safe-new cs m c l e);
-      sound = each-more (λ k. Sound operators (getD ds k noCall)) m (λ k z. rw (kept cs m c k z) (g .sound k z)) (rw x sound);
+      sound =
+          each-more (λ k. Sound operators (getD ds k noCall)) m (λ k z. rw (kept cs m c k z) (g .sound k z))
+          (rw x sound);
     }
 
 -- what is good at a place is good at the same place
@@ -221,16 +237,20 @@ abbrev end : ℕ → Planned → ℕ
 end last q = cond (eqb (q .number) 0) last 0
 
 -- THE THEOREM along the row
-walk-good : (operators last : ℕ) → operators ≤ 6 → last ≤ operators → (os : List ℕ) (inside first : ℕ) (p : Plan) → first + length os ≡ last → inside ≤ length os
-    → Good operators (first + inside) p → Good operators (end last (planFrom operators inside first p os)) (planFrom operators inside first p os .plan)
+walk-good : (operators last : ℕ) → operators ≤ 6 → last ≤ operators → (os : List ℕ) (inside first : ℕ) (p : Plan)
+    → first + length os ≡ last → inside ≤ length os
+    → Good operators (first + inside) p
+    → Good operators (end last (planFrom operators inside first p os)) (planFrom operators inside first p os .plan)
 unfolding planFrom callOf
 walk-good operators last h t [] inside first p l i g = good-at operators (first + inside) last p (omega arith) g
 walk-good operators last h t (o ∷ os) (suc inside) first p l i g =
-    walk-good operators last h t os inside (suc first) p (omega arith) (omega arith) (good-at operators (first + suc inside) (suc first + inside) p (omega arith) g)
+    walk-good operators last h t os inside (suc first) p (omega arith) (omega arith)
+    (good-at operators (first + suc inside) (suc first + inside) p (omega arith) g)
 walk-good operators last h t (o ∷ os) zero first p l i g =
     let n = rendered operators (o ∷ os) in
     let c = callOf first n (o ∷ os) in
-    at-call (λ q. Good operators (end last q) (q .plan)) operators first p o os (good-start operators) (good-start operators)
+    at-call (λ q. Good operators (end last q) (q .plan)) operators first p o os (good-start operators)
+    (good-start operators)
     (λ x y. walk-good operators last h t os (n - 1) (suc first) (extended p c) (omega arith) (omega (arith, rendered-within operators o os))
     (good-at operators (first + n) (suc first + (n - 1)) (extended p c) (omega (arith, positive n x))
     (good-more operators first n p c h (omega arith) refl refl (positive n x) (call-sound operators first o os c refl (eqb-false n 0 x) (omega arith)) y
@@ -245,7 +265,9 @@ module _ (operators : ℕ) (row : List ℕ) where
     where
       pick : (b : Bool) → counted operators ≡ b
           → Good operators (end (length (take operators row)) (cond b (planFrom operators 0 0 noPlan (take operators row)) (refusal 2 0))) (cond b (planFrom operators 0 0 noPlan (take operators row)) (refusal 2 0) .plan)
-      pick true x = walk-good operators _ (counted-few operators x) (omega (arith, length-take operators row)) (take operators row) 0 0 noPlan (omega arith) (omega arith) (good-start operators)
+      pick true x =
+          walk-good operators _ (counted-few operators x) (omega (arith, length-take operators row))
+          (take operators row) 0 0 noPlan (omega arith) (omega arith) (good-start operators)
       pick false x = good-start operators
 
   -- no call reads or adds to a scratch buffer that no earlier call has set
@@ -253,11 +275,13 @@ module _ (operators : ℕ) (row : List ℕ) where
   planned-safe = planned-good .safe
 
   -- every call has a renderer, four buffers and operators of the row
-  pub planned-sound : (k : ℕ) → k < planned operators row .plan .count → Sound operators (getD (planned operators row .plan .calls) k noCall)
+  pub planned-sound : (k : ℕ) → k < planned operators row .plan .count
+      → Sound operators (getD (planned operators row .plan .calls) k noCall)
   planned-sound = planned-good .sound
 
   -- and an operator or more
-  pub planned-some : (k : ℕ) → k < planned operators row .plan .count → 1 ≤ getD (planned operators row .plan .calls) k noCall .n
+  pub planned-some : (k : ℕ) → k < planned operators row .plan .count
+      → 1 ≤ getD (planned operators row .plan .calls) k noCall .n
   planned-some = planned-good .covering .some
 
   pub planned-few : planned operators row .plan .count ≤ operators
@@ -269,34 +293,42 @@ pub accepted-six : (operators : ℕ) (row : List ℕ) → planned operators row 
 unfolding planned
 accepted-six operators row e = pick (counted operators) refl e
   where
-    pick : (b : Bool) → counted operators ≡ b → cond b (planFrom operators 0 0 noPlan (take operators row)) (refusal 2 0) .number ≡ 0 → operators ≤ 6
+    pick : (b : Bool) → counted operators ≡ b
+        → cond b (planFrom operators 0 0 noPlan (take operators row)) (refusal 2 0) .number ≡ 0 → operators ≤ 6
     pick true x e = counted-few operators x
     pick false x e = absurd (omega arith)
 
 -- the calls' spans cover the operators, in row order
-pub accepted-covering : (operators : ℕ) (row : List ℕ) → length row ≡ 6 → planned operators row .number ≡ 0 → Covering (planned operators row .plan .calls) (planned operators row .plan .count) operators
+pub accepted-covering : (operators : ℕ) (row : List ℕ) → length row ≡ 6 → planned operators row .number ≡ 0
+    → Covering (planned operators row .plan .calls) (planned operators row .plan .count) operators
 accepted-covering operators row l e =
-    subst (Covering (planned operators row .plan .calls) (planned operators row .plan .count)) (rw e (length-take-le operators row (omega (arith, accepted-six operators row e)))) (planned-good operators row .covering)
+    subst (Covering (planned operators row .plan .calls) (planned operators row .plan .count))
+    (rw e (length-take-le operators row (omega (arith, accepted-six operators row e))))
+    (planned-good operators row .covering)
 
 -- ---- each operator is in exactly one call
 
 -- earlier calls end before later ones do
-covered-mono : (cs : List Call) (count operators : ℕ) → Covering cs count operators → (j k : ℕ) → j ≤ k → k ≤ count → covered cs j ≤ covered cs k
+covered-mono : (cs : List Call) (count operators : ℕ) → Covering cs count operators → (j k : ℕ) → j ≤ k → k ≤ count
+    → covered cs j ≤ covered cs k
 unfolding covered
 covered-mono cs count operators v j zero h i = let z : j ≡ 0 = omega arith in rw z (le-refl _)
-covered-mono cs count operators v j (suc k) h i = pick (decLt k j) (λ x. covered-mono cs count operators v j k x (omega arith))
+covered-mono cs count operators v j (suc k) h i =
+    pick (decLt k j) (λ x. covered-mono cs count operators v j k x (omega arith))
   where
     pick : Dec (k < j) → (j ≤ k → covered cs j ≤ covered cs k) → covered cs j ≤ covered cs (suc k)
     pick (yes x) f = let z : j ≡ suc k = omega arith in rw z (le-refl _)
     pick (no x) f = omega (arith, f (omega arith), v .starts k i)
 
 -- no operator is in two calls
-pub in-one-call : (cs : List Call) (count operators : ℕ) → Covering cs count operators → (j k i : ℕ) → j < count → k < count → In cs j i → In cs k i → j ≡ k
+pub in-one-call : (cs : List Call) (count operators : ℕ) → Covering cs count operators → (j k i : ℕ) → j < count
+    → k < count → In cs j i → In cs k i → j ≡ k
 unfolding covered
 in-one-call cs count operators v j k i hj hk a b = pick (decLt j k) (decLt k j)
   where
     apart : (j k : ℕ) → j < k → k < count → In cs j i → In cs k i → ⊥
-    apart j k h l a b = omega (arith, covered-mono cs count operators v (suc j) k h (omega arith), v .starts k l, a .to, b .from)
+    apart j k h l a b =
+        omega (arith, covered-mono cs count operators v (suc j) k h (omega arith), v .starts k l, a .to, b .from)
 
     pick : Dec (j < k) → Dec (k < j) → j ≡ k
     pick (yes x) d = absurd (apart j k x hk a b)
@@ -310,15 +342,18 @@ pub record Found (cs : List Call) (count i : ℕ) : Type 0 where
   pub here : In cs call i
 
 -- every operator before the end of the first k calls is in one of them
-found-below : (cs : List Call) (count operators : ℕ) → Covering cs count operators → (k : ℕ) → k ≤ count → (i : ℕ) → i < covered cs k → Found cs count i
+found-below : (cs : List Call) (count operators : ℕ) → Covering cs count operators → (k : ℕ) → k ≤ count → (i : ℕ)
+    → i < covered cs k → Found cs count i
 unfolding covered
 found-below cs count operators v zero h i l = absurd (omega arith)
-found-below cs count operators v (suc k) h i l = pick (decLt i (covered cs k)) (found-below cs count operators v k (omega arith) i)
+found-below cs count operators v (suc k) h i l =
+    pick (decLt i (covered cs k)) (found-below cs count operators v k (omega arith) i)
   where
     pick : Dec (i < covered cs k) → (i < covered cs k → Found cs count i) → Found cs count i
     pick (yes x) f = f x
     pick (no x) f = record { call = k; early = h; here = record { from = omega (arith, v .starts k h); to = l } }
 
 -- every operator is in a call
-pub in-a-call : (cs : List Call) (count operators : ℕ) → Covering cs count operators → (i : ℕ) → i < operators → Found cs count i
+pub in-a-call : (cs : List Call) (count operators : ℕ) → Covering cs count operators → (i : ℕ) → i < operators
+    → Found cs count i
 in-a-call cs count operators v i h = found-below cs count operators v count (le-refl count) i (rw (v .whole) h)

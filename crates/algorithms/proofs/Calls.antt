@@ -16,7 +16,8 @@ use Rattle.algorithms.specs.declared.Call.{Call}
 use Rattle.algorithms.proofs.Rows.{row-get}
 
 module _ (operators first : ℕ) (row : List ℕ) (w : Within operators first row) (n : ℕ) (h : 1 ≤ n) (k : first + n ≤ operators) where
-  pub call-at : (i o : ℕ) (a : Bool) → i ≡ source (getD row first 0) → o ≡ destination (getD row (first + n - 1) 0) → a ≡ adding (getD row (first + n - 1) 0)
+  pub call-at : (i o : ℕ) (a : Bool) → i ≡ source (getD row first 0) → o ≡ destination (getD row (first + n - 1) 0)
+      → a ≡ adding (getD row (first + n - 1) 0)
       → record { first = first; n = n; input = i; output = o; add = a } ≡ callOf first n (rowFrom operators first row)
   unfolding callOf
   call-at i o a ei eo ea =
@@ -33,10 +34,12 @@ pub reading-two : (c : Call) → (c .input ≡ 1 → ⊥) → eqb (c .input) 2 �
 unfolding reading
 reading-two c h = rw (ne-eqb (c .input) 1 h)
 
-pub unready-read : (f : ℕ → Bool) (c : Call) (b r : Bool) → b ≡ reading c → r ≡ b && not (f (c .input)) → r ≡ true → true ≡ unready f c
+pub unready-read : (f : ℕ → Bool) (c : Call) (b r : Bool) → b ≡ reading c → r ≡ b && not (f (c .input)) → r ≡ true
+    → true ≡ unready f c
 unfolding unready
 unready-read f c b r e g h = rw (← e, ← g, h)
 
-pub unready-add : (f : ℕ → Bool) (c : Call) (b r s : Bool) → b ≡ reading c → r ≡ b && not (f (c .input)) → r ≡ false → s ≡ c .add && not (f (c .output)) → s ≡ unready f c
+pub unready-add : (f : ℕ → Bool) (c : Call) (b r s : Bool) → b ≡ reading c → r ≡ b && not (f (c .input)) → r ≡ false
+    → s ≡ c .add && not (f (c .output)) → s ≡ unready f c
 unfolding unready
 unready-add f c b r s e g h k = rw (← e, ← g, h) k

@@ -13,7 +13,8 @@ use borrow.Author.Tests.{eqb-true, ne-eqb, eq-eqb, lt-ltb, le-ltb, le-leb, lt-le
 use Rattle.algorithms.specs.Opcode.{destination, adding, source, flagged}
 use native.Mathlib.Numerals.{add-one}
 use Rattle.algorithms.proofs.Rows.{row-length, row-cons, row-last, row-get}
-use Rattle.algorithms.specs.Chain.{rowFrom, Within, lastOperator, unmet, ends, grown, reused, chained, Modulation, originFrom, modulation, known, renders, callLength, rendered}
+use Rattle.algorithms.specs.Chain.{rowFrom, Within, lastOperator, unmet, ends, grown, reused, chained, Modulation}
+use Rattle.algorithms.specs.Chain.{originFrom, modulation, known, renders, callLength, rendered}
 use Rattle.algorithms.specs.Chain.Modulation.{unmodulated, external, feedback, originless}
 
 -- a chain is one operator at the row's last
@@ -34,7 +35,8 @@ grown-end o p os e = rw ends-next (pick (unmet o (p ∷ []) || adding o) e)
     pick true e = refl
     pick false e = absurd (mathlib.Core.Bool.true≢false e)
 
-pub grown-more : (o p : ℕ) (os : List ℕ) → not (unmet o (p ∷ []) || adding o) ≡ true → grown (o ∷ p ∷ os) ≡ suc (grown (p ∷ os))
+pub grown-more : (o p : ℕ) (os : List ℕ) → not (unmet o (p ∷ []) || adding o) ≡ true
+    → grown (o ∷ p ∷ os) ≡ suc (grown (p ∷ os))
 unfolding grown
 grown-more o p os e = rw ends-next (pick (unmet o (p ∷ []) || adding o) e)
   where
@@ -64,10 +66,12 @@ module _ (operators i : ℕ) (row : List ℕ) (w : Within operators i row) where
         let next : Within operators (suc i) row = record { whole = w .whole; most = w .most; one = omega arith } in
         row-cons operators i row w ∙ rw (row-cons operators (suc i) row next, add-one i)
 
-    pub end-at : not (unmet (getD row i 0) (getD row (i + 1) 0 ∷ []) || adding (getD row i 0)) ≡ false → grown (rowFrom operators i row) ≡ 1
+    pub end-at : not (unmet (getD row i 0) (getD row (i + 1) 0 ∷ []) || adding (getD row i 0)) ≡ false
+        → grown (rowFrom operators i row) ≡ 1
     end-at e = rw two-at (grown-end (getD row i 0) (getD row (i + 1) 0) (rowFrom operators (suc (suc i)) row) e)
 
-    pub more-at : not (unmet (getD row i 0) (getD row (i + 1) 0 ∷ []) || adding (getD row i 0)) ≡ true → grown (rowFrom operators i row) ≡ suc (grown (rowFrom operators (i + 1) row))
+    pub more-at : not (unmet (getD row i 0) (getD row (i + 1) 0 ∷ []) || adding (getD row i 0)) ≡ true
+        → grown (rowFrom operators i row) ≡ suc (grown (rowFrom operators (i + 1) row))
     more-at e =
         let next : Within operators (i + 1) row = record { whole = w .whole; most = w .most; one = omega arith } in
         let back : rowFrom operators (i + 1) row ≡ getD row (i + 1) 0 ∷ rowFrom operators (suc (suc i)) row = row-cons operators (i + 1) row next ∙ rw add-one in
@@ -91,7 +95,8 @@ grown-some o os = cond-least (ends o os) 1 (suc (grown os)) 1 (omega arith) (ome
 grown-within : (os : List ℕ) → grown os ≤ length os
 unfolding grown
 grown-within [] = omega arith
-grown-within (o ∷ os) = cond-most (ends o os) 1 (suc (grown os)) (suc (length os)) (omega arith) (omega (arith, grown-within os))
+grown-within (o ∷ os) =
+    cond-most (ends o os) 1 (suc (grown os)) (suc (length os)) (omega arith) (omega (arith, grown-within os))
 
 chained-some : (o : ℕ) (os : List ℕ) → 1 ≤ chained (o ∷ os)
 unfolding chained
@@ -99,7 +104,8 @@ chained-some o os = cond-least (reused (o ∷ os)) 1 (grown (o ∷ os)) 1 (omega
 
 chained-within : (o : ℕ) (os : List ℕ) → chained (o ∷ os) ≤ suc (length os)
 unfolding chained
-chained-within o os = cond-most (reused (o ∷ os)) 1 (grown (o ∷ os)) (suc (length os)) (omega arith) (grown-within (o ∷ os))
+chained-within o os =
+    cond-most (reused (o ∷ os)) 1 (grown (o ∷ os)) (suc (length os)) (omega arith) (grown-within (o ∷ os))
 
 module _ (operators first : ℕ) (row : List ℕ) (w : Within operators first row) (n : ℕ) where
   pub grown-at : n ≡ grown (rowFrom operators first row) → (1 ≤ n) × (first + n ≤ operators)
@@ -115,7 +121,8 @@ module _ (operators first : ℕ) (row : List ℕ) (w : Within operators first ro
       (omega (arith, chained-some (getD row first 0) (rowFrom operators (suc first) row)), omega (arith, chained-within (getD row first 0) (rowFrom operators (suc first) row), w .one))
 
   -- the chain reaches the row's end
-  pub whole-chain : n ≡ grown (rowFrom operators first row) → operators ≤ first + n → n ≡ chained (rowFrom operators first row)
+  pub whole-chain : n ≡ grown (rowFrom operators first row) → operators ≤ first + n
+      → n ≡ chained (rowFrom operators first row)
   unfolding chained reused
   whole-chain e h =
       let l : length (rowFrom operators first row) ≤ grown (rowFrom operators first row) = omega (arith, row-length operators first row w) in
@@ -145,7 +152,8 @@ one-or-one n = pick (eqb n 1) refl
     pick true e = eqb-true n 1 e
     pick false e = refl
 
-known-few : (operators n : ℕ) (m : Modulation) (add : Bool) → eqb operators 6 ≡ false → cond (known operators n m add) n 1 ≡ 1
+known-few : (operators n : ℕ) (m : Modulation) (add : Bool) → eqb operators 6 ≡ false
+    → cond (known operators n m add) n 1 ≡ 1
 unfolding known
 known-few operators n unmodulated add e = one-or-one n
 known-few operators n external add e = one-or-one n
@@ -163,13 +171,15 @@ few-one operators os h = sym (known-few operators (chained os) _ _ (ne-eqb opera
 
 -- what a list's first operators are modulated by
 pub modulation-first : (o n : ℕ) (os : List ℕ) → 1 ≤ n
-    → modulation (take n (o ∷ os)) ≡ cond (eqb (source o) 0) unmodulated (cond (eqb (source o) 3) (originFrom 0 originless (take n (o ∷ os))) external)
+    → modulation (take n (o ∷ os))
+    ≡ cond (eqb (source o) 0) unmodulated (cond (eqb (source o) 3) (originFrom 0 originless (take n (o ∷ os))) external)
 unfolding modulation
 modulation-first o n os h = rw (getD-take n (o ∷ os) 0 0 h)
 
 pub dry-one : (operators o : ℕ) (os : List ℕ) → (source o ≡ 3 → ⊥) → 1 ≡ callLength operators (o ∷ os)
 unfolding callLength renders known
-dry-one operators o os h = rw (modulation-first o (chained (o ∷ os)) os (chained-some o os), ne-eqb (source o) 3 h) (pick (eqb (source o) 0))
+dry-one operators o os h =
+    rw (modulation-first o (chained (o ∷ os)) os (chained-some o os), ne-eqb (source o) 3 h) (pick (eqb (source o) 0))
   where
     pick : (b : Bool) → 1 ≡ cond (known operators (chained (o ∷ os)) (cond b unmodulated external) (adding (getD (o ∷ os) (chained (o ∷ os) - 1) 0))) (chained (o ∷ os)) 1
     pick true = sym (one-or-one (chained (o ∷ os)))
@@ -187,7 +197,8 @@ two-known false true false = refl
 two-known false false true = refl
 two-known false false false = refl
 
-three-known : (a f g k : Bool) → known 6 3 (cond k (feedback 2) (cond g (feedback 1) (cond f (feedback 0) originless))) a ≡ (a && k)
+three-known : (a f g k : Bool)
+    → known 6 3 (cond k (feedback 2) (cond g (feedback 1) (cond f (feedback 0) originless))) a ≡ (a && k)
 unfolding known
 three-known true f g true = refl
 three-known false f g true = refl
@@ -206,23 +217,27 @@ one-known operators a false = refl
 
 known-one : (operators o : ℕ) (os : List ℕ) → renders operators (o ∷ os) 1 ≡ cond (eqb (source o) 3) (flagged o) true
 unfolding renders originFrom known
-known-one operators o os = rw (modulation-first o 1 os (omega arith)) (pick (eqb (source o) 0) (eqb (source o) 3) refl refl)
+known-one operators o os =
+    rw (modulation-first o 1 os (omega arith)) (pick (eqb (source o) 0) (eqb (source o) 3) refl refl)
   where
     pick : (b d : Bool) → eqb (source o) 0 ≡ b → eqb (source o) 3 ≡ d
-        → known operators 1 (cond b unmodulated (cond d (cond (flagged o) (feedback 0) originless) external)) (adding o) ≡ cond d (flagged o) true
+        → known operators 1 (cond b unmodulated (cond d (cond (flagged o) (feedback 0) originless) external)) (adding o)
+        ≡ cond d (flagged o) true
     pick true true e f = let z : _≡_ {A = ℕ} 0 3 = sym (eqb-true (source o) 0 e) ∙ eqb-true (source o) 3 f in absurd (omega arith)
     pick true false e f = refl
     pick false true e f = one-known operators (adding o) (flagged o)
     pick false false e f = refl
 
-fed : (o n : ℕ) (os : List ℕ) → 1 ≤ n → source o ≡ 3 → modulation (take n (o ∷ os)) ≡ originFrom 0 originless (take n (o ∷ os))
+fed : (o n : ℕ) (os : List ℕ) → 1 ≤ n → source o ≡ 3
+    → modulation (take n (o ∷ os)) ≡ originFrom 0 originless (take n (o ∷ os))
 fed o n os h e = modulation-first o n os h ∙ rw (eq-eqb (source o) 3 e, ne-eqb (source o) 0 (omega arith))
 
 known-many : (n : ℕ) (m : Modulation) (add : Bool) → 3 < n → known 6 n m add ≡ false
 unfolding known
 known-many n unmodulated add h = ne-eqb n 1 (omega arith)
 known-many n external add h = ne-eqb n 1 (omega arith)
-known-many n (feedback j) add h = rw (ne-eqb n 1 (omega arith), ne-eqb n 2 (omega arith), ne-eqb n 3 (omega arith)) (and-false add)
+known-many n (feedback j) add h =
+    rw (ne-eqb n 1 (omega arith), ne-eqb n 2 (omega arith), ne-eqb n 3 (omega arith)) (and-false add)
 known-many n originless add h = refl
 
 one-same : (b : Bool) → _≡_ {A = ℕ} (cond b 1 1) 1
@@ -231,7 +246,8 @@ one-same false = refl
 
 -- the call's length where the chain's is n
 fed-length : (n : ℕ) (o : ℕ) (os : List ℕ) → source o ≡ 3 → 1 ≤ n → n ≤ suc (length os)
-    → cond (renders 6 (o ∷ os) n) n 1 ≡ cond (leb n 3 && (adding (getD (o ∷ os) (n - 1) 0) && flagged (getD (o ∷ os) (n - 1) 0))) n 1
+    → cond (renders 6 (o ∷ os) n) n 1
+    ≡ cond (leb n 3 && (adding (getD (o ∷ os) (n - 1) 0) && flagged (getD (o ∷ os) (n - 1) 0))) n 1
 unfolding renders originFrom
 fed-length zero o os e h k = absurd (not-suc-le-zero h)
 fed-length (suc zero) o os e h k = one-same (renders 6 (o ∷ os) 1) ∙ sym (one-same (adding o && flagged o))
@@ -239,17 +255,22 @@ fed-length (suc (suc zero)) o [] e h k = absurd (omega arith)
 fed-length (suc (suc zero)) o (p ∷ os) e h k = rw (fed o 2 (p ∷ os) h e, two-known (adding p) (flagged o) (flagged p))
 fed-length (suc (suc (suc zero))) o [] e h k = absurd (omega arith)
 fed-length (suc (suc (suc zero))) o (p ∷ []) e h k = absurd (omega arith)
-fed-length (suc (suc (suc zero))) o (p ∷ q ∷ os) e h k = rw (fed o 3 (p ∷ q ∷ os) h e, three-known (adding q) (flagged o) (flagged p) (flagged q))
+fed-length (suc (suc (suc zero))) o (p ∷ q ∷ os) e h k =
+    rw (fed o 3 (p ∷ q ∷ os) h e, three-known (adding q) (flagged o) (flagged p) (flagged q))
 fed-length (suc (suc (suc (suc n)))) o os e h k =
     rw (known-many (suc (suc (suc (suc n)))) (modulation (take (suc (suc (suc (suc n)))) (o ∷ os))) _ (omega arith), lt-leb (suc (suc (suc (suc n)))) 3 (omega arith))
 
 -- ---- a call's length at an operator of a row
 
 module _ (operators first : ℕ) (row : List ℕ) (w : Within operators first row) where
-  pub dry-at : (s : ℕ) → s ≡ source (getD row first 0) → (s ≡ 3 → ⊥) → 1 ≡ callLength operators (rowFrom operators first row)
-  dry-at s e h = rw (row-cons operators first row w) (dry-one operators (getD row first 0) (rowFrom operators (suc first) row) (λ z. h (e ∙ z)))
+  pub dry-at : (s : ℕ) → s ≡ source (getD row first 0) → (s ≡ 3 → ⊥)
+      → 1 ≡ callLength operators (rowFrom operators first row)
+  dry-at s e h =
+      rw (row-cons operators first row w)
+      (dry-one operators (getD row first 0) (rowFrom operators (suc first) row) (λ z. h (e ∙ z)))
 
-  -- a chain of six operators with feedback, whose length is n; a and f say whether its last operator adds and is flagged
+  -- a chain of six operators with feedback, whose length is n; a and f say whether its last operator adds and is
+  -- flagged
   module _ (s n : ℕ) (six : operators ≡ 6) (es : s ≡ source (getD row first 0)) (h : s ≡ 3) (en : n ≡ chained (rowFrom operators first row)) where
     fed-at : callLength operators (rowFrom operators first row) ≡ cond (leb n 3 && (adding (getD row (first + n - 1) 0) && flagged (getD row (first + n - 1) 0))) n 1
     unfolding callLength
@@ -281,7 +302,8 @@ module _ (operators first : ℕ) (row : List ℕ) (w : Within operators first ro
 -- ---- a call's renderer
 
 -- a call of several operators has one
-several-rendered : (operators : ℕ) (os : List ℕ) → (callLength operators os ≡ 1 → ⊥) → callLength operators os ≡ rendered operators os
+several-rendered : (operators : ℕ) (os : List ℕ) → (callLength operators os ≡ 1 → ⊥)
+    → callLength operators os ≡ rendered operators os
 unfolding rendered callLength
 several-rendered operators os h = pick (renders operators os (chained os)) refl h
   where
@@ -294,9 +316,11 @@ pub rendered-within : (operators o : ℕ) (os : List ℕ) → rendered operators
 unfolding rendered callLength
 rendered-within operators o os =
     let k = cond-most (renders operators (o ∷ os) (chained (o ∷ os))) (chained (o ∷ os)) 1 (suc (length os)) (chained-within o os) (omega arith) in
-    cond-most (renders operators (o ∷ os) (callLength operators (o ∷ os))) (callLength operators (o ∷ os)) 0 (suc (length os)) k (omega arith)
+    cond-most (renders operators (o ∷ os) (callLength operators (o ∷ os))) (callLength operators (o ∷ os)) 0
+    (suc (length os)) k (omega arith)
 
-pub rendered-at : (operators first : ℕ) (row : List ℕ) (w : Within operators first row) (n : ℕ) → n ≡ rendered operators (rowFrom operators first row) → first + n ≤ operators
+pub rendered-at : (operators first : ℕ) (row : List ℕ) (w : Within operators first row) (n : ℕ)
+    → n ≡ rendered operators (rowFrom operators first row) → first + n ≤ operators
 rendered-at operators first row w n e =
     let e′ = rw (row-cons operators first row w) at e in
     let l = rw (row-cons operators first row w) at (row-length operators first row w) in

@@ -20,7 +20,9 @@ module _ (operators first : ℕ) (row : List ℕ) (w : Within operators first ro
 
   -- nothing is behind the last one
   pub row-last : first + 1 ≡ operators → rowFrom operators (suc first) row ≡ []
-  row-last e = drop-of-length-le (take operators row) {i = suc first} (rw (length-take-le operators row (omega arith)) (omega arith))
+  row-last e =
+      drop-of-length-le (take operators row) {i = suc first}
+      (rw (length-take-le operators row (omega arith)) (omega arith))
 
   -- the operator k places on
   pub row-get : (k : ℕ) → first + k < operators → getD (rowFrom operators first row) k 0 ≡ getD row (first + k) 0

@@ -25,10 +25,13 @@ beq-same false = refl
 
 -- calls and plans with equal fields are equal
 call-equal : (f f′ n n′ i i′ o o′ : ℕ) (a a′ : Bool) → f ≡ f′ → n ≡ n′ → i ≡ i′ → o ≡ o′ → a ≡ a′
-    → _≡_ {A = Call} (record { first = f; n = n; input = i; output = o; add = a }) (record { first = f′; n = n′; input = i′; output = o′; add = a′ })
+    → _≡_ {A =
+    Call} (record { first = f; n = n; input = i; output = o; add = a }) (record
+    { first = f′; n = n′; input = i′; output = o′; add = a′ })
 call-equal f f′ n n′ i i′ o o′ a a′ x₁ x₂ x₃ x₄ x₅ = rw (x₁, x₂, x₃, x₄, x₅)
 
-plan-equal : (n n′ : ℕ) (cs ds : List Call) → n ≡ n′ → cs ≡ ds → _≡_ {A = Plan} (record { count = n; calls = cs }) (record { count = n′; calls = ds })
+plan-equal : (n n′ : ℕ) (cs ds : List Call) → n ≡ n′ → cs ≡ ds → _≡_ {A =
+    Plan} (record { count = n; calls = cs }) (record { count = n′; calls = ds })
 plan-equal n n′ cs ds x y = rw (x, y)
 
 pub same-call-equal : (c d : Call) → sameCall c d ≡ true → c ≡ d
@@ -87,7 +90,8 @@ same-plan-self p = rw (eq-eqb (p .count) (p .count) refl) (same-calls-self (p .c
 -- ---- the loop over the calls
 
 module _ (cs ds : List Call) (k : ℕ) (h : k < length cs) (i : k < length ds) where
-  pub same-more : sameCall (getD cs k noCall) (getD ds k noCall) ≡ true → sameCalls (drop k cs) (drop k ds) ≡ sameCalls (drop (k + 1) cs) (drop (k + 1) ds)
+  pub same-more : sameCall (getD cs k noCall) (getD ds k noCall) ≡ true
+      → sameCalls (drop k cs) (drop k ds) ≡ sameCalls (drop (k + 1) cs) (drop (k + 1) ds)
   unfolding sameCalls
   same-more e = rw (drop-cons cs k noCall h, drop-cons ds k noCall i, e, add-one)
 

@@ -20,11 +20,13 @@ use Rattle.algorithms.specs.declared.Planned.{Planned}
 use Rattle.algorithms.proofs.Rows.{row-cons}
 
 -- the operators inside a call are passed over
-pub inside : (operators k first : ℕ) (p : Plan) (os : List ℕ) → planFrom operators k first p os ≡ planFrom operators 0 (first + k) p (drop k os)
+pub inside : (operators k first : ℕ) (p : Plan) (os : List ℕ)
+    → planFrom operators k first p os ≡ planFrom operators 0 (first + k) p (drop k os)
 unfolding planFrom
 inside operators zero first p os = rw add-zero
 inside operators (suc k) first p [] = refl
-inside operators (suc k) first p (o ∷ os) = inside operators k (suc first) p os ∙ ap (λ (j : ℕ). planFrom operators 0 j p (drop k os)) (omega arith)
+inside operators (suc k) first p (o ∷ os) =
+    inside operators k (suc first) p os ∙ ap (λ (j : ℕ). planFrom operators 0 j p (drop k os)) (omega arith)
 
 -- what holds of both refusals, and of the walk behind an accepted call, holds of the walk where a call begins
 module _ (A : Planned → Type 0) (operators first : ℕ) (p : Plan) (o : ℕ) (os : List ℕ) where
@@ -90,7 +92,8 @@ counted-range : (operators : ℕ) → counted operators ≡ true → (0 < operat
 unfolding counted
 counted-range operators e = pick (eqb operators 4) (eqb operators 6) refl refl e
   where
-    pick : (b d : Bool) → eqb operators 4 ≡ b → eqb operators 6 ≡ d → (b || d) ≡ true → (0 < operators) × (operators ≤ 6)
+    pick : (b d : Bool) → eqb operators 4 ≡ b → eqb operators 6 ≡ d → (b || d) ≡ true
+        → (0 < operators) × (operators ≤ 6)
     pick true d f g e = let z = eqb-true operators 4 f in (omega arith, omega arith)
     pick false true f g e = let z = eqb-true operators 6 g in (omega arith, omega arith)
     pick false false f g e = absurd (false≢true e)
@@ -125,7 +128,8 @@ pub call-output : (first n : ℕ) (os : List ℕ) (c : Call) → c ≡ callOf fi
 unfolding callOf destination
 call-output first n os c e = rw e (omega arith)
 
-pub flags-agree : (flags : List Bool) (cs : List Call) (k : ℕ) (c : Call) → Flags flags cs k → c .input < 4 → c .output < 4 → unready (λ q. getD flags q false) c ≡ unready (ready cs k) c
+pub flags-agree : (flags : List Bool) (cs : List Call) (k : ℕ) (c : Call) → Flags flags cs k → c .input < 4
+    → c .output < 4 → unready (λ q. getD flags q false) c ≡ unready (ready cs k) c
 unfolding unready
 flags-agree flags cs k c f i o = rw (f (c .input) i, f (c .output) o)
 
@@ -133,7 +137,8 @@ flags-agree flags cs k c f i o = rw (f (c .input) i, f (c .output) o)
 pub ready-before : (cs : List Call) (i k q : ℕ) (c : Call) → k ≤ i → ready (set cs i c) k q ≡ ready cs k q
 unfolding ready
 ready-before cs i zero q c h = refl
-ready-before cs i (suc k) q c h = rw (getD-set-other cs i k c noCall (omega arith), ready-before cs i k q c (omega arith))
+ready-before cs i (suc k) q c h =
+    rw (getD-set-other cs i k c noCall (omega arith), ready-before cs i k q c (omega arith))
 
 -- a call that passes sets its buffer, or the buffer was ready
 set-or-ready : (x a r : Bool) → (x || (a && not r)) ≡ false → (not a || r) ≡ true
@@ -143,13 +148,17 @@ set-or-ready false true false e = absurd (true≢false e)
 set-or-ready false false r e = refl
 
 -- the buffer that an accepted call writes is ready behind it
-pub flags-more : (flags : List Bool) (cs : List Call) (k : ℕ) (c : Call) → length flags ≡ 4 → k < length cs → c .output < 4 → unready (ready cs k) c ≡ false → Flags flags cs k
+pub flags-more : (flags : List Bool) (cs : List Call) (k : ℕ) (c : Call) → length flags ≡ 4 → k < length cs
+    → c .output < 4 → unready (ready cs k) c ≡ false → Flags flags cs k
     → Flags (set flags (c .output) true) (set cs k c) (k + 1)
 unfolding ready unready
-flags-more flags cs k c l h o u f q hq = rw (add-one, getD-set-same cs k c noCall h, ready-before cs k k q c (le-refl k)) (pick (eqb q (c .output)) refl)
+flags-more flags cs k c l h o u f q hq =
+    rw (add-one, getD-set-same cs k c noCall h, ready-before cs k k q c (le-refl k)) (pick (eqb q (c .output)) refl)
   where
-    pick : (b : Bool) → eqb q (c .output) ≡ b → getD (set flags (c .output) true) q false ≡ ((b && not (c .add)) || ready cs k q)
+    pick : (b : Bool) → eqb q (c .output) ≡ b
+        → getD (set flags (c .output) true) q false ≡ ((b && not (c .add)) || ready cs k q)
     pick true e =
         let z = eqb-true q (c .output) e in
-        rw (z, getD-set-same flags (c .output) true false (omega arith)) (sym (set-or-ready (reading c && not (ready cs k (c .input))) (c .add) (ready cs k (c .output)) u))
+        rw (z, getD-set-same flags (c .output) true false (omega arith))
+        (sym (set-or-ready (reading c && not (ready cs k (c .input))) (c .add) (ready cs k (c .output)) u))
     pick false e = getD-set-other flags (c .output) q true false (eqb-false q (c .output) e) ∙ f q hq

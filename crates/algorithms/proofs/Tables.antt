@@ -14,7 +14,8 @@ use Rattle.algorithms.specs.Table.{six, tabled, rowOf, withRow, compiled
 use Rattle.algorithms.specs.declared.Compiled.{Compiled}
 use Rattle.algorithms.specs.declared.Planned.{Planned}
 
-pub row-fits : (operators : ℕ) (table : List ℕ) (row : ℕ) → tabled operators table row ≡ true → row * operators + operators ≤ length table
+pub row-fits : (operators : ℕ) (table : List ℕ) (row : ℕ) → tabled operators table row ≡ true
+    → row * operators + operators ≤ length table
 unfolding tabled
 row-fits operators table row e =
     let r = length table / operators in
@@ -28,7 +29,8 @@ row-fits operators table row e =
 
 -- ---- the tests of the code, in order
 
-pub wrong-operators : (operators : ℕ) (table : List ℕ) (row : ℕ) → counted operators ≡ false → false ≡ tabled operators table row
+pub wrong-operators : (operators : ℕ) (table : List ℕ) (row : ℕ) → counted operators ≡ false
+    → false ≡ tabled operators table row
 unfolding tabled
 wrong-operators operators table row k = rw k
 
@@ -53,21 +55,35 @@ module _ (operators : ℕ) (table : List ℕ) (row : ℕ) (k : counted operators
 
 -- ---- the row beside its plan
 
-pub kept-row : (bytes : List ℕ) (p : Planned) → p .number ≡ 0 → record { number = p .number; at = p .at; row = bytes; plan = p .plan } ≡ withRow bytes p
+pub kept-row : (bytes : List ℕ) (p : Planned) → p .number ≡ 0 → record {
+  number =
+      p .number;
+  at = p .at;
+  row = bytes;
+  plan = p .plan;
+} ≡ withRow bytes p
 unfolding withRow
 kept-row bytes p e = rw (eq-eqb (p .number) 0 e)
 
-pub zero-row : (bytes : List ℕ) (p : Planned) → (p .number ≡ 0 → ⊥) → record { number = p .number; at = p .at; row = 0 ∷ 0 ∷ 0 ∷ 0 ∷ 0 ∷ 0 ∷ []; plan = p .plan } ≡ withRow bytes p
+pub zero-row : (bytes : List ℕ) (p : Planned) → (p .number ≡ 0 → ⊥) → record {
+  number =
+      p .number;
+  at = p .at;
+  row = 0 ∷ 0 ∷ 0 ∷ 0 ∷ 0 ∷ 0 ∷ [];
+  plan = p .plan;
+} ≡ withRow bytes p
 unfolding withRow six
 zero-row bytes p h = rw (ne-eqb (p .number) 0 h)
 
 -- a refusal's row is zero, whatever the bytes
-pub refused-row : (bytes other : List ℕ) (number at : ℕ) → (number ≡ 0 → ⊥) → withRow bytes (refusal number at) ≡ withRow other (refusal number at)
+pub refused-row : (bytes other : List ℕ) (number at : ℕ) → (number ≡ 0 → ⊥)
+    → withRow bytes (refusal number at) ≡ withRow other (refusal number at)
 unfolding withRow
 refused-row bytes other number at h = rw (ne-eqb number 0 h)
 
 module _ (operators : ℕ) (table : List ℕ) (row : ℕ) (t : Bool) (et : t ≡ tabled operators table row) (bytes : List ℕ) (p : Planned) (r : Compiled) (er : r ≡ withRow bytes p) where
-  pub compiled-row : t ≡ true → bytes ≡ rowOf operators table row → p ≡ planned operators bytes → r ≡ compiled operators table row
+  pub compiled-row : t ≡ true → bytes ≡ rowOf operators table row → p ≡ planned operators bytes
+      → r ≡ compiled operators table row
   unfolding compiled
   compiled-row z eb ep = rw (← et, z, ← eb, ← ep) er
 

@@ -12,7 +12,8 @@ use lib.ListN.{length, getD, set, drop, length-set}
 use lib.Seq.{getD-set-same, getD-set-other}
 use borrow.Author.Tests.{eqb-true, eq-eqb, ne-eqb}
 use Rattle.algorithms.specs.Chain.{rendered}
-use Rattle.algorithms.specs.Plan.{noCall, noPlan, callOf, ready, unready, extended, refusal, planFrom, counted, planned, sameCall, sameCalls, samePlan, isPlanOf, firstCalls}
+use Rattle.algorithms.specs.Plan.{noCall, noPlan, callOf, ready, unready, extended, refusal, planFrom, counted}
+use Rattle.algorithms.specs.Plan.{planned, sameCall, sameCalls, samePlan, isPlanOf, firstCalls}
 use Rattle.algorithms.specs.declared.Call.{Call}
 use Rattle.algorithms.specs.declared.Plan.{Plan}
 use Rattle.algorithms.specs.declared.Planned.{Planned}
@@ -39,12 +40,15 @@ module _ (p : Plan) where
   pub first-slots : (k : ℕ) → length (firstCalls k p .calls) ≡ 6
   unfolding firstCalls extended
   first-slots zero = refl
-  first-slots (suc k) = length-set (firstCalls k p .calls) (firstCalls k p .count) (getD (p .calls) k noCall) ∙ first-slots k
+  first-slots (suc k) =
+      length-set (firstCalls k p .calls) (firstCalls k p .count) (getD (p .calls) k noCall) ∙ first-slots k
 
   -- one more of them
-  pub first-next : (k : ℕ) (c : Call) → sameCall c (getD (p .calls) k noCall) ≡ true → extended (firstCalls k p) c ≡ firstCalls (k + 1) p
+  pub first-next : (k : ℕ) (c : Call) → sameCall c (getD (p .calls) k noCall) ≡ true
+      → extended (firstCalls k p) c ≡ firstCalls (k + 1) p
   unfolding firstCalls
-  first-next k c e = rw (add-one k) (ap (λ (d : Call). extended (firstCalls k p) d) (same-call-equal c (getD (p .calls) k noCall) e))
+  first-next k c e =
+      rw (add-one k) (ap (λ (d : Call). extended (firstCalls k p) d) (same-call-equal c (getD (p .calls) k noCall) e))
 
   -- they are the plan's own
   first-kept : (k i : ℕ) → k ≤ 6 → i < k → getD (firstCalls k p .calls) i noCall ≡ getD (p .calls) i noCall
@@ -55,7 +59,8 @@ module _ (p : Plan) where
       cs : List Call
       cs = firstCalls k p .calls
 
-      pick : Dec (i < k) → (i < k → getD cs i noCall ≡ getD (p .calls) i noCall) → getD (set cs k (getD (p .calls) k noCall)) i noCall ≡ getD (p .calls) i noCall
+      pick : Dec (i < k) → (i < k → getD cs i noCall ≡ getD (p .calls) i noCall)
+          → getD (set cs k (getD (p .calls) k noCall)) i noCall ≡ getD (p .calls) i noCall
       pick (yes x) f = getD-set-other cs k i (getD (p .calls) k noCall) noCall (omega arith) ∙ f x
       pick (no x) f = let z : i ≡ k = omega arith in rw z (getD-set-same cs k (getD (p .calls) k noCall) noCall (omega (arith, first-slots k)))
 
@@ -72,7 +77,8 @@ module _ (p : Plan) (k : ℕ) where
   other-count z = rw (first-count p k, ne-eqb (p .count) k z)
 
   module _ (l : length (p .calls) ≡ 6) where
-    pub first-same : k ≤ 6 → p .count ≡ k → sameCalls (drop k (p .calls)) (drop k (firstCalls k p .calls)) ≡ samePlan p (firstCalls k p)
+    pub first-same : k ≤ 6 → p .count ≡ k
+        → sameCalls (drop k (p .calls)) (drop k (firstCalls k p .calls)) ≡ samePlan p (firstCalls k p)
     unfolding samePlan
     first-same h z = rw (first-count p k, eq-eqb (p .count) k z) (go k (omega arith))
       where
@@ -91,15 +97,19 @@ module _ (p : Plan) (k : ℕ) where
       here = e ∙ ap (λ (d : Call). sameCall (getD (p .calls) i noCall) d) (en ∙ sym (first-behind p k i h t))
 
       pub some-behind : b ≡ false → sameCalls (drop i (p .calls)) (drop i (firstCalls k p .calls)) ≡ false
-      some-behind z = same-less (p .calls) (firstCalls k p .calls) i (omega arith) (omega (arith, first-slots p k)) (sym here ∙ z)
+      some-behind z =
+          same-less (p .calls) (firstCalls k p .calls) i (omega arith) (omega (arith, first-slots p k)) (sym here ∙ z)
 
       pub none-behind : b ≡ true → sameCalls (drop (i + 1) (p .calls)) (drop (i + 1) (firstCalls k p .calls)) ≡ sameCalls (drop i (p .calls)) (drop i (firstCalls k p .calls))
-      none-behind z = sym (same-more (p .calls) (firstCalls k p .calls) i (omega arith) (omega (arith, first-slots p k)) (sym here ∙ z))
+      none-behind z =
+          sym
+          (same-more (p .calls) (firstCalls k p .calls) i (omega arith) (omega (arith, first-slots p k)) (sym here ∙ z))
 
 -- ---- the walk
 
 -- an accepted walk keeps the calls that it has
-kept-calls : (operators : ℕ) (os : List ℕ) (inside first : ℕ) (p : Plan) (k : ℕ) → k < p .count → planFrom operators inside first p os .number ≡ 0
+kept-calls : (operators : ℕ) (os : List ℕ) (inside first : ℕ) (p : Plan) (k : ℕ) → k < p .count
+    → planFrom operators inside first p os .number ≡ 0
     → getD (planFrom operators inside first p os .plan .calls) k noCall ≡ getD (p .calls) k noCall
 unfolding planFrom
 kept-calls operators [] inside first p k h e = refl
@@ -119,17 +129,26 @@ module _ (operators : ℕ) (row : List ℕ) (plan : Plan) where
   uncounted e = rw e
 
   -- a refused row has no plan
-  pub no-plan-of : (number at : ℕ) → eqb number 0 ≡ false → refusal number at ≡ planned operators row → false ≡ isPlanOf operators row plan
+  pub no-plan-of : (number at : ℕ) → eqb number 0 ≡ false → refusal number at ≡ planned operators row
+      → false ≡ isPlanOf operators row plan
   unfolding isPlanOf
-  no-plan-of number at h e = sym (ap (λ (b : Bool). b && samePlan plan noPlan) h) ∙ ap (λ (q : Planned). eqb (q .number) 0 && samePlan plan (q .plan)) e
+  no-plan-of number at h e =
+      sym (ap (λ (b : Bool). b && samePlan plan noPlan) h) ∙ ap
+      (λ (q : Planned). eqb (q .number) 0 && samePlan plan (q .plan)) e
 
   -- at the row's end the plan is the one so far, or another
-  pub whole-plan : (p : Plan) → record { number = 0; at = 0; plan = p } ≡ planned operators row → samePlan plan p ≡ isPlanOf operators row plan
+  pub whole-plan : (p : Plan) → record {
+    number =
+        0;
+    at = 0;
+    plan = p;
+  } ≡ planned operators row → samePlan plan p ≡ isPlanOf operators row plan
   unfolding isPlanOf
   whole-plan p e = ap (λ (q : Planned). eqb (q .number) 0 && samePlan plan (q .plan)) e
 
   -- a call that is not the plan's
-  pub other-call : (first : ℕ) (os : List ℕ) (k : ℕ) (c : Call) → k < 6 → planFrom operators 0 first (extended (firstCalls k plan) c) os ≡ planned operators row
+  pub other-call : (first : ℕ) (os : List ℕ) (k : ℕ) (c : Call) → k < 6
+      → planFrom operators 0 first (extended (firstCalls k plan) c) os ≡ planned operators row
       → sameCall c (getD (plan .calls) k noCall) ≡ false → false ≡ isPlanOf operators row plan
   unfolding isPlanOf extended
   other-call first os k c h e d = pick (isPlanOf operators row plan) refl

@@ -109,8 +109,8 @@ fn grow(operators: usize, row: &[u8; 6], first: usize) -> usize
 }
 
 // The same after the reuse rule. A chain rendered as one keeps what passes between its operators to itself; where the
-// operator behind the chain is modulated by the first one's buffer too (algorithms 19 to 25 have one modulator for
-// several), that must be left there, so the chain shrinks to its first operator.
+// operator behind the chain is modulated by the first one's buffer too, it must be left there, so the chain shrinks to
+// its first operator. Algorithms 19 to 25, and 6 of those of four operators, have one modulator for several.
 fn chain(operators: usize, row: &[u8; 6], first: usize) -> usize
     requires { ⌜ Within operators first (now row) ⌝ }
     ensures { λ r. ⌜ r ≡ chained (rowFrom operators first (now (row .entry))) ⌝ }

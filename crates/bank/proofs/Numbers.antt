@@ -49,7 +49,8 @@ module _ (dump : List ℕ) where
   unfolding numberOf
   sound-slot slot e = at (leb slot 31) refl e
     where
-      at : (b : Bool) → leb slot 31 ≡ b → _≡_ {A = ℕ} (cond b (validateOf dump) 2) 0 → (length dump ≡ 4104) × (slot ≤ 31)
+      at : (b : Bool) → leb slot 31 ≡ b → _≡_ {A = ℕ} (cond b (validateOf dump) 2) 0
+          → (length dump ≡ 4104) × (slot ≤ 31)
       at true q z = (sound-length z, leb-true slot 31 q)
       at false q z = let w : ⊥ = omega arith in absurd w
 

@@ -26,7 +26,8 @@ module _ (dump : List ℕ) (sound : validateOf dump ≡ 0) where
   unfolding partsOf slotOf
   first-parts zero h = refl
   first-parts (suc n) h =
-      ap₂ _++_ (first-parts n (omega arith)) (part-of-sound n (omega arith) ∙ ap (take 128) (sym (drop-drop (n * 128) 6 dump)))
+      ap₂ _++_ (first-parts n (omega arith))
+      (part-of-sound n (omega arith) ∙ ap (take 128) (sym (drop-drop (n * 128) 6 dump)))
       ∙ sym (take-add (n * 128) 128 (drop 6 dump))
       ∙ ap (λ (k : ℕ). take k (drop 6 dump)) (sym (suc-mul n 128))
 

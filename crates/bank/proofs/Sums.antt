@@ -33,7 +33,9 @@ module _ (bytes : List ℕ) (c : ℕ) where
   -- a checksum that is not below 128, one that does not complete the sum, and one that does
   pub too-high : 127 < c → summed bytes c ≡ false
   unfolding summed
-  too-high h = ap (λ (b : Bool). eqb ((total bytes + c) % 128) 0 && b) (le-ltb c 128 (omega arith)) ∙ and-false (eqb ((total bytes + c) % 128) 0)
+  too-high h =
+      ap (λ (b : Bool). eqb ((total bytes + c) % 128) 0 && b) (le-ltb c 128 (omega arith)) ∙ and-false
+      (eqb ((total bytes + c) % 128) 0)
 
   pub not-summed : (sum : ℕ) → sum ≡ total bytes % 128 → ((sum + c) % 128 ≡ 0 → ⊥) → summed bytes c ≡ false
   unfolding summed
@@ -46,7 +48,9 @@ module _ (bytes : List ℕ) (c : ℕ) where
   -- the checksum is the one number that is so
   pub checksum-summed : summed bytes (checksumOf bytes) ≡ true
   unfolding summed checksumOf
-  checksum-summed = rw (eq-eqb ((total bytes + (128 - total bytes % 128) % 128) % 128) 0 (omega arith)) (lt-ltb ((128 - total bytes % 128) % 128) 128 (omega arith))
+  checksum-summed =
+      rw (eq-eqb ((total bytes + (128 - total bytes % 128) % 128) % 128) 0 (omega arith))
+      (lt-ltb ((128 - total bytes % 128) % 128) 128 (omega arith))
 
   pub summed-checksum : summed bytes c ≡ true → c ≡ checksumOf bytes
   unfolding summed checksumOf

@@ -6,13 +6,16 @@ use Rattle.numbers.specs.Extremes.{minimum}
 use Rattle.dx_units.specs.Answers.{operatorLevelAnswer, operatorEnvelopeIncrementAnswer}
 use Rattle.dx_units_inner.specs.Units.{operatorLevel, operatorEnvelopeIncrement, stepFor}
 use Rattle.algorithms.specs.Opcode.{destination, adding, source, flagged}
-use Rattle.algorithms.specs.Chain.{lastOperator, unmet, ends, grown, reused, chained, originFrom, modulation, known, renders, callLength, rendered}
+use Rattle.algorithms.specs.Chain.{lastOperator, unmet, ends, grown, reused, chained, originFrom, modulation, known}
+use Rattle.algorithms.specs.Chain.{renders, callLength, rendered}
 use Rattle.algorithms.specs.Plan.{callOf, reading, ready, unready, extended, planFrom, counted, planned}
 use Rattle.algorithms.specs.Table.{six}
 use Rattle.cases_proved.specs.Cases.{AllHold, cases}
 
 pub cases-hold : AllHold cases
-unfolding operatorLevelAnswer operatorLevel operatorEnvelopeIncrementAnswer operatorEnvelopeIncrement stepFor minimum decimal minusDecimal ofInt div mul lt isNan toUnsigned
-    destination adding source flagged lastOperator unmet ends grown reused chained originFrom modulation known renders callLength rendered
+unfolding operatorLevelAnswer operatorLevel operatorEnvelopeIncrementAnswer operatorEnvelopeIncrement stepFor minimum
+    decimal minusDecimal ofInt div mul lt isNan toUnsigned
+    destination adding source flagged lastOperator unmet ends grown reused chained originFrom modulation known renders
+    callLength rendered
     callOf reading ready unready extended planFrom counted planned six
 cases-hold = (refl, (refl, (refl, (refl, (refl, (refl, (refl, (refl, (refl, (refl, (refl, (refl, ((refl, refl), (refl, (refl, tt)))))))))))))))

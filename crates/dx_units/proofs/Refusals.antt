@@ -15,14 +15,16 @@ use Rattle.patch_limits.specs.Ranges.{between}
 use Rattle.dx_units.specs.Answers.{fieldNumber, parameterNumber, firstOf, convertedFor, scalingOf, frequencyFits}
 
 -- a field alone: 6 above its largest number
-pub field-fits : (n largest : ℕ) {r x : Float} → n ≤ largest → r ≡ x → Value r ≡ convertedFor (fieldNumber (leb n largest)) x
+pub field-fits : (n largest : ℕ) {r x : Float} → n ≤ largest → r ≡ x
+    → Value r ≡ convertedFor (fieldNumber (leb n largest)) x
 field-fits n largest h e = simp (le-leb n largest h, e)
 
 pub field-above : (n largest : ℕ) (x : Float) → largest < n → Refused 6 ≡ convertedFor (fieldNumber (leb n largest)) x
 field-above n largest x h = simp (lt-leb n largest h)
 
 -- with a parameter after it: 7 for a NaN and outside its range
-pub field-first : (fits : Bool) (m : ℕ) (v : Float) → fits ≡ false → Refused 6 ≡ convertedFor (firstOf (fieldNumber fits) m) v
+pub field-first : (fits : Bool) (m : ℕ) (v : Float) → fits ≡ false
+    → Refused 6 ≡ convertedFor (firstOf (fieldNumber fits) m) v
 field-first fits m v e = simp e
 
 module _ (fits : Bool) (x : Float) (largest : ℕ) (v : Float) (e : fits ≡ true) where

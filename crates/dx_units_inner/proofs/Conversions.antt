@@ -19,7 +19,10 @@ use Rattle.units.specs.Ratio.{ratioOf}
 use Rattle.dx_units_inner.specs.declared.Increments.{Increments}
 use Rattle.dx_units_inner.specs.declared.Ratio.the-variants.{Note, Hertz}
 use Rattle.dx_units_inner.specs.Tables.{lutCubeRoot}
-use Rattle.dx_units_inner.specs.Units.{operatorLevel, pitchEnvelopeLevel, operatorEnvelopeIncrement, lfoSteps, lfoFrequency, delaySteps, lfoDelay, normalizedVelocity, bent, sideScaling, keyboardScaling, coarseSemitones, baseSemitones, fineFactor, frequencyRatio}
+use Rattle.dx_units_inner.specs.Units.{operatorLevel, pitchEnvelopeLevel, operatorEnvelopeIncrement, lfoSteps}
+use Rattle.dx_units_inner.specs.Units.{lfoFrequency, delaySteps, lfoDelay, normalizedVelocity, bent, sideScaling}
+use Rattle.dx_units_inner.specs.Units.{keyboardScaling, coarseSemitones, baseSemitones, fineFactor}
+use Rattle.dx_units_inner.specs.Units.{frequencyRatio}
 
 -- ---- levels
 
@@ -48,14 +51,17 @@ level-at-most-127 level h = go (ltb level 15) refl (ltb level 20) refl
     go false ea true eb = omega (arith, level-middle level (ltb-true level 20 eb) (ltb-false level 15 ea))
     go false ea false eb = omega (arith, level-high level (ltb-false level 20 eb))
 
-pub pitch-level : (level : ℕ) {a t : Float} → a ≡ magnitude ((asFloat level ⊖ decimal 50 0) ⊘ decimal 32 0 ⊕ decimal 2 2) → t ≡ maximum (a ⊖ decimal 1 0) (decimal 0 0)
+pub pitch-level : (level : ℕ) {a t : Float}
+    → a ≡ magnitude ((asFloat level ⊖ decimal 50 0) ⊘ decimal 32 0 ⊕ decimal 2 2)
+    → t ≡ maximum (a ⊖ decimal 1 0) (decimal 0 0)
     → (asFloat level ⊖ decimal 50 0) ⊘ decimal 32 0 ⊗ (decimal 1 0 ⊕ t ⊗ t ⊗ decimal 53056 4) ≡ pitchEnvelopeLevel level
 unfolding pitchEnvelopeLevel
 pitch-level level ea et = simp (et, ea)
 
 -- ---- rates
 
-pub increment : (rate : ℕ) {b : ℕ} {n m : ℤ} {v : Float} → b ≡ shifted32 (4 + rate * 41 / 64 % 4) (2 + rate * 41 / 64 / 4) → n ≡ toZ w32 b → m ≡ n → v ≡ ofInt binary32 m
+pub increment : (rate : ℕ) {b : ℕ} {n m : ℤ} {v : Float}
+    → b ≡ shifted32 (4 + rate * 41 / 64 % 4) (2 + rate * 41 / 64 / 4) → n ≡ toZ w32 b → m ≡ n → v ≡ ofInt binary32 m
     → v ⊘ decimal 16777216 0 ≡ operatorEnvelopeIncrement rate
 unfolding operatorEnvelopeIncrement
 increment rate eb en em ev = simp (ev, em, en, eb)
@@ -72,28 +78,33 @@ pub steps-low : (rate : ℕ) → (rate ≡ 0 → ⊥) → rate * 165 / 64 < 160 
 unfolding lfoSteps
 steps-low rate n h = simp (ne-eqb rate 0 n, lt-ltb (rate * 165 / 64) 160 h)
 
-pub steps-high : (rate : ℕ) → (rate ≡ 0 → ⊥) → 160 ≤ rate * 165 / 64 → rate * 165 / 64 * (11 + (rate * 165 / 64 - 160) / 16) ≡ lfoSteps rate
+pub steps-high : (rate : ℕ) → (rate ≡ 0 → ⊥) → 160 ≤ rate * 165 / 64
+    → rate * 165 / 64 * (11 + (rate * 165 / 64 - 160) / 16) ≡ lfoSteps rate
 unfolding lfoSteps
 steps-high rate n h = simp (ne-eqb rate 0 n, le-ltb (rate * 165 / 64) 160 h)
 
-pub frequency : (rate : ℕ) {n : ℕ} {v : Float} → n ≡ lfoSteps rate → v ≡ asFloat n → v ⊗ decimal 5865 6 ≡ lfoFrequency rate
+pub frequency : (rate : ℕ) {n : ℕ} {v : Float} → n ≡ lfoSteps rate → v ≡ asFloat n
+    → v ⊗ decimal 5865 6 ≡ lfoFrequency rate
 unfolding lfoFrequency
 frequency rate en ev = simp (ev, en)
 
 -- ---- the LFO's delay
 
-pub delay-none : (delay : ℕ) → delay ≡ 0 → _≡_ {A = Increments} (record { first = decimal 100000 0; second = decimal 100000 0 }) (lfoDelay delay)
+pub delay-none : (delay : ℕ) → delay ≡ 0 → _≡_ {A =
+    Increments} (record { first = decimal 100000 0; second = decimal 100000 0 }) (lfoDelay delay)
 unfolding lfoDelay
 delay-none delay e = simp (eq-eqb delay 0 e)
 
-pub delay-some : (delay : ℕ) {d k : ℕ} {v w : Float} → (delay ≡ 0 → ⊥) → d ≡ delaySteps delay → k ≡ max 128 (d / 128 % 512 * 128) → v ≡ asFloat d → w ≡ asFloat k
+pub delay-some : (delay : ℕ) {d k : ℕ} {v w : Float} → (delay ≡ 0 → ⊥) → d ≡ delaySteps delay
+    → k ≡ max 128 (d / 128 % 512 * 128) → v ≡ asFloat d → w ≡ asFloat k
     → _≡_ {A = Increments} (record { first = v ⊗ decimal 5865 6; second = w ⊗ decimal 5865 6 }) (lfoDelay delay)
 unfolding lfoDelay
 delay-some delay n ed ek ev ew = simp (ne-eqb delay 0 n, ev, ew, ek, ed)
 
 -- ---- velocity and rate scaling
 
-pub velocity : (v : Float) {m r : Float} → m ≡ minimum v (decimal 99 2) → r ≡ interpolated lutCubeRoot m (decimal 16 0) → decimal 16 0 ⊗ (r ⊖ decimal 918 3) ≡ normalizedVelocity v
+pub velocity : (v : Float) {m r : Float} → m ≡ minimum v (decimal 99 2) → r ≡ interpolated lutCubeRoot m (decimal 16 0)
+    → decimal 16 0 ⊗ (r ⊖ decimal 918 3) ≡ normalizedVelocity v
 unfolding normalizedVelocity
 velocity v em er = simp (er, em)
 
@@ -122,27 +133,32 @@ module _ (x : Float) (curve depth : ℕ) {a t : Float} (ea : a ≡ magnitude x) 
   side-up h = simp (le-ltb curve 2 h, et, ea)
 
 module _ (note : Float) (leftDepth rightDepth leftCurve rightCurve breakPoint : ℕ) {r : Float} where
-  pub on-right : lt (decimal 0 0) (note ⊖ asFloat breakPoint ⊖ decimal 15 0) ≡ true → r ≡ sideScaling (note ⊖ asFloat breakPoint ⊖ decimal 15 0) rightCurve rightDepth
+  pub on-right : lt (decimal 0 0) (note ⊖ asFloat breakPoint ⊖ decimal 15 0) ≡ true
+      → r ≡ sideScaling (note ⊖ asFloat breakPoint ⊖ decimal 15 0) rightCurve rightDepth
       → r ≡ keyboardScaling note leftDepth rightDepth leftCurve rightCurve breakPoint
   unfolding keyboardScaling
   on-right h e = simp h e
 
-  pub on-left : lt (decimal 0 0) (note ⊖ asFloat breakPoint ⊖ decimal 15 0) ≡ false → r ≡ sideScaling (note ⊖ asFloat breakPoint ⊖ decimal 15 0) leftCurve leftDepth
+  pub on-left : lt (decimal 0 0) (note ⊖ asFloat breakPoint ⊖ decimal 15 0) ≡ false
+      → r ≡ sideScaling (note ⊖ asFloat breakPoint ⊖ decimal 15 0) leftCurve leftDepth
       → r ≡ keyboardScaling note leftDepth rightDepth leftCurve rightCurve breakPoint
   unfolding keyboardScaling
   on-left h e = simp h e
 
 -- ---- frequency
 
-pub base-note : (mode coarse fine : ℕ) {r : Float} → mode ≡ 0 → r ≡ coarseSemitones coarse → r ≡ baseSemitones mode coarse fine
+pub base-note : (mode coarse fine : ℕ) {r : Float} → mode ≡ 0 → r ≡ coarseSemitones coarse
+    → r ≡ baseSemitones mode coarse fine
 unfolding baseSemitones
 base-note mode coarse fine e er = simp (eq-eqb mode 0 e) er
 
-pub base-hertz : (mode coarse fine : ℕ) → (mode ≡ 0 → ⊥) → asFloat (coarse % 4 * 100 + fine) ⊗ decimal 39864 5 ≡ baseSemitones mode coarse fine
+pub base-hertz : (mode coarse fine : ℕ) → (mode ≡ 0 → ⊥)
+    → asFloat (coarse % 4 * 100 + fine) ⊗ decimal 39864 5 ≡ baseSemitones mode coarse fine
 unfolding baseSemitones
 base-hertz mode coarse fine n = simp (ne-eqb mode 0 n)
 
-pub factor-fine : (mode fine : ℕ) → mode ≡ 0 → (fine ≡ 0 → ⊥) → decimal 1 0 ⊕ decimal 1 2 ⊗ asFloat fine ≡ fineFactor mode fine
+pub factor-fine : (mode fine : ℕ) → mode ≡ 0 → (fine ≡ 0 → ⊥)
+    → decimal 1 0 ⊕ decimal 1 2 ⊗ asFloat fine ≡ fineFactor mode fine
 unfolding fineFactor
 factor-fine mode fine e n = simp (eq-eqb mode 0 e, ne-eqb fine 0 n)
 

@@ -26,7 +26,8 @@ not-order k (pos n) e = ne-eqb n k e
 not-order k (negsuc n) e = refl
 
 -- a call is handed a signed number m that is n, read back from its bits, and r is read back as s
-pub below-zero : (x : Float) {n m r s : ℤ} → lt x (decimal 0 0) ≡ true → n ≡ toSigned 31 x → m ≡ n → r ≡ differenceSigned m (pos 1) → s ≡ r → s ≡ wholeBelow x
+pub below-zero : (x : Float) {n m r s : ℤ} → lt x (decimal 0 0) ≡ true → n ≡ toSigned 31 x → m ≡ n
+    → r ≡ differenceSigned m (pos 1) → s ≡ r → s ≡ wholeBelow x
 unfolding wholeBelow
 below-zero x h en em er es = simp (h, es, er, em, en)
 
@@ -34,12 +35,15 @@ pub at-zero-or-above : (x : Float) {n s : ℤ} → lt x (decimal 0 0) ≡ false 
 unfolding wholeBelow
 at-zero-or-above x h en es = simp (h, es, en)
 
-pub first-order : (x : Float) (order : ℤ) {n m : ℤ} {b : ℕ} {r : Float} → isOrder 1 order ≡ true → n ≡ toSigned 31 (decimal 8388608 0 ⊗ (decimal 127 0 ⊕ x))
+pub first-order : (x : Float) (order : ℤ) {n m : ℤ} {b : ℕ} {r : Float} → isOrder 1 order ≡ true
+    → n ≡ toSigned 31 (decimal 8388608 0 ⊗ (decimal 127 0 ⊕ x))
     → m ≡ n → b ≡ ofZ w32 m → r ≡ ofBits binary32 b → r ≡ pow2Fast x order
 unfolding pow2Fast
 first-order x order h en em eb er = simp (h, er, eb, em, en)
 
-pub other-order : (x : Float) (order : ℤ) {n m o : ℤ} {v r : Float} {p b e s : ℕ} → isOrder 1 order ≡ false → n ≡ wholeBelow x → m ≡ n → v ≡ ofInt binary32 m → o ≡ order
-    → p ≡ mantissaBits (x ⊖ v) o → b ≡ ofZ w32 m → e ≡ shifted32 b 23 → s ≡ sum32 p e → r ≡ ofBits binary32 s → r ≡ pow2Fast x order
+pub other-order : (x : Float) (order : ℤ) {n m o : ℤ} {v r : Float} {p b e s : ℕ} → isOrder 1 order ≡ false
+    → n ≡ wholeBelow x → m ≡ n → v ≡ ofInt binary32 m → o ≡ order
+    → p ≡ mantissaBits (x ⊖ v) o → b ≡ ofZ w32 m → e ≡ shifted32 b 23 → s ≡ sum32 p e → r ≡ ofBits binary32 s
+    → r ≡ pow2Fast x order
 unfolding pow2Fast
 other-order x order h en em ev eo ep eb ee es er = simp (h, er, es, ee, eb, ep, eo, ev, em, en)

@@ -1,4 +1,5 @@
--- What the tests of `pow_2_fast_1` and `pow_2_fast_2` say of a float, and what its casts and its power of two are there. Assumes nothing.
+-- What the tests of `pow_2_fast_1` and `pow_2_fast_2` say of a float, and what its casts and its power of two are
+-- there. Assumes nothing.
 use mathlib.Core.Path.{_≡_, refl, sym, _∙_, ap, subst}
 use mathlib.Core.Bool.{Bool, true, false, not, _&&_, _||_, cond}
 use Prim.Native.Nat.{ℕ, zero, suc, _+_, _-_, _*_, _/_, _%_, _^_, _≤_, _<_, min, compare}
@@ -8,7 +9,8 @@ use native.Mathlib.Omega.{arith}
 use borrow.Author.Tests.{lt-ltb, le-ltb, ltb-true, ltb-false, eqb-true, eqb-false}
 use lib.Dec.{T, ltb, eqb, lt→ltb, le→leb}
 use lib.IntN.{ℤ, pos, negsuc, negℤ}
-use lib.Ieee.{Float, nan, inf, fin, Format, binary32, low, prec, emax, up, down, size, nearest, lt, le, eq, neg, add, sub, odd, units, round, ofInt, toUnsigned, toSigned, inFloat, ofBits, nanBits}
+use lib.Ieee.{Float, nan, inf, fin, Format, binary32, low, prec, emax, up, down, size, nearest, lt, le, eq, neg, add}
+use lib.Ieee.{sub, odd, units, round, ofInt, toUnsigned, toSigned, inFloat, ofBits, nanBits}
 use lib.Ieee.Bits.{nanBits-above}
 use lib.Ieee.Fits.{down-pos, round-is}
 use mir.Syntax.{w32}
@@ -56,9 +58,11 @@ same-cast : (y : Float) → Pattern y → toSigned 31 y ≡ pos (toUnsigned 32 y
 unfolding toSigned toUnsigned
 same-cast _ (pattern m e g h) = let z = whole-at-most 2139095040 m e h in ap pos (omega arith)
 
-pub in-one-cast : (x : Float) → Pattern (decimal 8388608 0 ⊗ (decimal 127 0 ⊕ x)) → ofBits binary32 (toUnsigned 32 (decimal 8388608 0 ⊗ (decimal 127 0 ⊕ x))) ≡ pow2Fast x (pos 1)
+pub in-one-cast : (x : Float) → Pattern (decimal 8388608 0 ⊗ (decimal 127 0 ⊕ x))
+    → ofBits binary32 (toUnsigned 32 (decimal 8388608 0 ⊗ (decimal 127 0 ⊕ x))) ≡ pow2Fast x (pos 1)
 unfolding pow2Fast
-in-one-cast x p = sym (ap (λ (z : ℤ). ofBits binary32 (ofZ w32 z)) (same-cast (decimal 8388608 0 ⊗ (decimal 127 0 ⊕ x)) p))
+in-one-cast x p =
+    sym (ap (λ (z : ℤ). ofBits binary32 (ofZ w32 z)) (same-cast (decimal 8388608 0 ⊗ (decimal 127 0 ⊕ x)) p))
 
 -- ---- order 2, from 0 up to 127. -0 is there too
 
@@ -73,7 +77,9 @@ is-rising (inf true) h k = no h
 is-rising (inf false) h k = no k
 is-rising (fin true m e) h k =
     minus-zero m e
-    (let z = eqb-true (0 * 1 * down e) (m * up e * 1) (both (eqb (0 * 1 * down e) (m * up e * 1)) (eqb (0 * 1 * down e) 0) h .0) in omega arith)
+    (let z =
+    eqb-true (0 * 1 * down e) (m * up e * 1)
+    (both (eqb (0 * 1 * down e) (m * up e * 1)) (eqb (0 * 1 * down e) 0) h .0) in omega arith)
 is-rising (fin false m e) h k = rises m e (let z = ltb-true (m * up e * 1) (127 * 1 * down e) k in omega arith)
 
 whole-below : (c m : ℕ) (e : ℤ) → m * up e < c * down e → m * up e / down e < c
@@ -110,7 +116,8 @@ pub exact : (n : ℕ) → n ≤ 127 → T (inFloat binary32 (pos n))
 unfolding inFloat
 exact n h = le→leb n (2 ^ 24) (omega arith)
 
-pub risen : (x : Float) {n p s : ℕ} {r : Float} → Rising x → n ≡ toUnsigned 64 x → p ≡ mantissaBits (x ⊖ asFloat n) (pos 2) → s ≡ sum32 p (shifted32 n 23) → r ≡ ofBits binary32 s
+pub risen : (x : Float) {n p s : ℕ} {r : Float} → Rising x → n ≡ toUnsigned 64 x
+    → p ≡ mantissaBits (x ⊖ asFloat n) (pos 2) → s ≡ sum32 p (shifted32 n 23) → r ≡ ofBits binary32 s
     → r ≡ pow2Fast x (pos 2)
 unfolding pow2Fast
 risen x {n} v en ep es er = let w : wholeBelow x ≡ pos n = rising-whole x v ∙ ap pos (sym en) in simp (w, er, es, ep)
@@ -135,7 +142,8 @@ is-falling (fin false m e) h k = absurd (not-less (0 * 1 * down e) (m * up e * 1
         go false true s t u = on u
         go false false s t u = let y = ltb-false a b s in let z = eqb-false a b t in omega arith
 is-falling (fin true m e) h k =
-    falls m e (let s = some (0 * 1 * down e) (m * up e * 1) (omega arith) h in omega arith) (let z = ltb-true (m * up e * 1) (63 * 2 ^ 1 * down e) k in omega arith)
+    falls m e (let s = some (0 * 1 * down e) (m * up e * 1) (omega arith) h in omega arith)
+    (let z = ltb-true (m * up e * 1) (63 * 2 ^ 1 * down e) k in omega arith)
   where
     some : (a b : ℕ) → a ≡ 0 → (eqb a b && eqb a 0) ≡ false → 0 < b
     some a b l g = go (eqb a b) (eqb a 0) refl refl g
@@ -185,14 +193,16 @@ neg-cond false x y x' y' h k = k
 neg-units : (f : Format) (q k : ℕ) → neg (units f true q k) ≡ units f false q k
 unfolding units neg
 neg-units f q k =
-    neg-cond (ltb (q * 2 ^ k) (2 ^ (low f + suc (emax f)))) (odd (suc (prec f)) true q k (low f)) (inf true) (odd (suc (prec f)) false q k (low f)) (inf false)
+    neg-cond (ltb (q * 2 ^ k) (2 ^ (low f + suc (emax f)))) (odd (suc (prec f)) true q k (low f)) (inf true)
+    (odd (suc (prec f)) false q k (low f)) (inf false)
     (neg-odd (suc (prec f)) q k (low f)) refl
 
 neg-round : (f : Format) (n d : ℕ) → neg (round f true n d) ≡ round f false n d
 neg-round f n d =
     let w = n * 2 ^ low f in
     let k = size (w / d) - prec f in
-    ap neg (round-is f true n d) ∙ neg-units f (nearest (w / (d * 2 ^ k)) (compare (w % (d * 2 ^ k) * 2) (d * 2 ^ k))) k ∙ sym (round-is f false n d)
+    ap neg (round-is f true n d) ∙ neg-units f (nearest (w / (d * 2 ^ k)) (compare (w % (d * 2 ^ k) * 2) (d * 2 ^ k))) k
+    ∙ sym (round-is f false n d)
 
 away : (x : Float) (q : ℕ) → x ⊖ ofInt binary32 (negsuc q) ≡ x ⊕ asFloat (q + 1)
 unfolding sub ofInt
@@ -201,7 +211,8 @@ away x q = rw add-one (ap (add binary32 x) (neg-round binary32 (suc q) 1))
 taken : (p q : ℕ) → q < 126 → difference32 p (shifted32 (q + 1) 23) ≡ sum32 p (shifted32 (ofZ w32 (negsuc q)) 23)
 taken p q h = omega arith
 
-pub fallen : (x : Float) {q p s : ℕ} {r : Float} → Falling x → q ≡ toUnsigned 64 (neg x) → p ≡ mantissaBits (x ⊕ asFloat (q + 1)) (pos 2) → s ≡ difference32 p (shifted32 (q + 1) 23)
+pub fallen : (x : Float) {q p s : ℕ} {r : Float} → Falling x → q ≡ toUnsigned 64 (neg x)
+    → p ≡ mantissaBits (x ⊕ asFloat (q + 1)) (pos 2) → s ≡ difference32 p (shifted32 (q + 1) 23)
     → r ≡ ofBits binary32 s → r ≡ pow2Fast x (pos 2)
 unfolding pow2Fast
 fallen x {q} v eq ep es er =

@@ -2,16 +2,21 @@
 use mathlib.Core.Path.{_≡_, refl, sym, _∙_, ap, subst}
 use mathlib.Core.Bool.{Bool, true, false, not, _&&_, _||_, Bool·beq}
 use Prim.Native.Nat.{ℕ, zero, suc, _+_, _-_, _*_, _/_, _%_, _^_, _≤_, _<_, min}
-use native.Mathlib.Nat.{mul-one, one-mul, mul-le-mul, mul-le-mul-right, mul-comm, div-le-of-le-mul, le-of-lt, lt-irrefl, lt-of-lt-of-le, div-lt-iff-lt-mul, le-div-iff-mul-le, mod-one, pow-suc}
+use native.Mathlib.Nat.{mul-one, one-mul, mul-le-mul, mul-le-mul-right, mul-comm, div-le-of-le-mul, le-of-lt, lt-irrefl}
+use native.Mathlib.Nat.{lt-of-lt-of-le, div-lt-iff-lt-mul, le-div-iff-mul-le, mod-one, pow-suc}
 use native.Mathlib.Omega.{arith}
 use borrow.Author.Tests.{ltb-true, ltb-false, eqb-true, eq-eqb}
 use lib.Dec.{T, ltb, leb, eqb, eqb→eq, ltb→lt, lt→ltb, le→leb}
 use lib.IntN.{ℤ, pos, negsuc, negℤ}
 use lib.Pow.{pow-pos, pow-mono}
 use lib.Ieee.Fits.{up-pos, down-pos, and-l, and-r, and-i, eq→eqb, fits-widens}
-use lib.Ieee.{Float, nan, inf, fin, binary32, binary64, up, down, lt, le, eq, ne, neg, fits, toUnsigned, toSigned, inUnsigned, whole, isNan}
+use lib.Ieee.{Float, nan, inf, fin, binary32, binary64, up, down, lt, le, eq, ne, neg, fits, toUnsigned, toSigned}
+use lib.Ieee.{inUnsigned, whole, isNan}
 use Rattle.numbers.specs.Extremes.{magnitude}
-use Rattle.numbers.proofs.Views.{no, on, both, AtLeast, ge-inf, ge-fin, NotAtLeast, nge-nan, nge-inf, nge-neg, nge-fin, Under, lt-inf, lt-neg, lt-fin, NotUnder, nlt-nan, nlt-inf, nlt-fin, AtLeastNeg, gen-inf, gen-fin, gen-neg, NotAtLeastNeg, ngen-neg, NotAboveNeg, ngt-nan, ngt-inf, ngt-neg}
+use Rattle.numbers.proofs.Views.{no, on, both, AtLeast, ge-inf, ge-fin, NotAtLeast, nge-nan, nge-inf, nge-neg}
+use Rattle.numbers.proofs.Views.{nge-fin, Under, lt-inf, lt-neg, lt-fin, NotUnder, nlt-nan, nlt-inf, nlt-fin}
+use Rattle.numbers.proofs.Views.{AtLeastNeg, gen-inf, gen-fin, gen-neg, NotAtLeastNeg, ngen-neg, NotAboveNeg}
+use Rattle.numbers.proofs.Views.{ngt-nan, ngt-inf, ngt-neg}
 
 -- an f32 of 2 ^ 23 or more has no fraction
 pub no-fraction : (m k : ℕ) → m < 2 ^ 24 → 2 ^ 23 * 2 ^ suc k ≤ m * 1 → ⊥
@@ -60,7 +65,8 @@ too-large w _ nlt-inf n = refl
 too-large w _ (nlt-fin m e g) n = let h = whole-ge w m e g in omega arith
 
 -- below 2 ^ j every wider cast is the same
-pub narrows : (j w v : ℕ) (x : Float) → 2 ^ j ≤ 2 ^ w - 1 → 2 ^ j ≤ 2 ^ v - 1 → NotAtLeast j x → toUnsigned w x ≡ toUnsigned v x
+pub narrows : (j w v : ℕ) (x : Float) → 2 ^ j ≤ 2 ^ w - 1 → 2 ^ j ≤ 2 ^ v - 1 → NotAtLeast j x
+    → toUnsigned w x ≡ toUnsigned v x
 unfolding toUnsigned
 narrows j w v _ p q nge-nan = refl
 narrows j w v _ p q nge-inf = refl
@@ -73,12 +79,16 @@ negative w j _ ngt-nan = refl
 negative w j _ ngt-inf = refl
 negative w j _ (ngt-neg m e) = refl
 
-pub small-enough : (j k : ℕ) (x : Float) → 2 ^ j ≤ 2 ^ k → NotAtLeast j x → lt (fin true 1 (pos 0)) x ≡ true → T (lt x (fin false 1 (pos k)))
+pub small-enough : (j k : ℕ) (x : Float) → 2 ^ j ≤ 2 ^ k → NotAtLeast j x → lt (fin true 1 (pos 0)) x ≡ true
+    → T (lt x (fin false 1 (pos k)))
 unfolding lt
 small-enough j k _ p nge-nan a = no a
 small-enough j k _ p nge-inf a = no a
-small-enough j k _ p (nge-neg m e) a = lt→ltb 0 (m * up e * 1 + 1 * 2 ^ k * down e) (let z = mul-le-mul (pow-pos k) (down-pos e) in omega arith)
-small-enough j k _ p (nge-fin m e g) a = lt→ltb (m * up e * 1) (1 * 2 ^ k * down e) (let z = mul-le-mul-right (down e) p in rw (one-mul, mul-one) (omega arith))
+small-enough j k _ p (nge-neg m e) a =
+    lt→ltb 0 (m * up e * 1 + 1 * 2 ^ k * down e) (let z = mul-le-mul (pow-pos k) (down-pos e) in omega arith)
+small-enough j k _ p (nge-fin m e g) a =
+    lt→ltb (m * up e * 1) (1 * 2 ^ k * down e)
+    (let z = mul-le-mul-right (down e) p in rw (one-mul, mul-one) (omega arith))
 
 -- what `x as f64` asks
 pub widens : (x : Float) → T (fits binary32 x) → isNan x ≡ false → T (fits binary64 x && not (isNan x))
@@ -118,9 +128,11 @@ whole-le j m e h = div-le-of-le-mul (down e) (subst (λ (n : ℕ). m * up e ≤ 
 pub narrows-signed : (j v : ℕ) (x : Float) → j ≤ v → Under j x → AtLeastNeg j x → toSigned v x ≡ toSigned j x
 unfolding toSigned
 narrows-signed j v _ p (lt-neg m e) (gen-neg _ _ g) =
-    neg-min (m * up e / down e) (2 ^ v) (2 ^ j) (let h = whole-le j m e g in let q = pow-mono p in omega arith) (whole-le j m e g)
+    neg-min (m * up e / down e) (2 ^ v) (2 ^ j) (let h =
+    whole-le j m e g in let q = pow-mono p in omega arith) (whole-le j m e g)
 narrows-signed j v _ p (lt-fin m e g) (gen-fin _ _) =
-    pos-min (m * up e / down e) (2 ^ v - 1) (2 ^ j - 1) (let h = whole-lt j m e g in let q = pow-mono p in omega arith) (let h = whole-lt j m e g in omega arith)
+    pos-min (m * up e / down e) (2 ^ v - 1) (2 ^ j - 1) (let h =
+    whole-lt j m e g in let q = pow-mono p in omega arith) (let h = whole-lt j m e g in omega arith)
 
 pub too-low : (j : ℕ) (x : Float) → Under j x → NotAtLeastNeg j x → toSigned j x ≡ negℤ (pos (2 ^ j))
 unfolding toSigned
@@ -165,15 +177,21 @@ pub low-wider : (j k : ℕ) (x : Float) → 2 ^ j ≤ 2 ^ k → AtLeastNeg j x �
 unfolding le lt eq
 low-wider j k _ p gen-inf = tt
 low-wider j k _ p (gen-fin m e) =
-    or-i (ltb 0 (1 * 2 ^ k * down e + m * up e * 1)) (eqb (1 * 2 ^ k * down e) (m * up e * 1) && eqb (1 * 2 ^ k * down e) 0) (lt→ltb 0 (1 * 2 ^ k * down e + m * up e * 1) (let z = mul-le-mul (pow-pos k) (down-pos e) in omega arith))
+    or-i (ltb 0 (1 * 2 ^ k * down e + m * up e * 1))
+    (eqb (1 * 2 ^ k * down e) (m * up e * 1) && eqb (1 * 2 ^ k * down e) 0)
+    (lt→ltb 0 (1 * 2 ^ k * down e + m * up e * 1) (let z = mul-le-mul (pow-pos k) (down-pos e) in omega arith))
 low-wider j k _ p (gen-neg m e g) =
-    ge-or (1 * 2 ^ k * down e) (m * up e * 1) (let z = mul-le-mul-right (down e) p in rw (one-mul, mul-one) (omega arith))
+    ge-or (1 * 2 ^ k * down e) (m * up e * 1) (let z =
+    mul-le-mul-right (down e) p in rw (one-mul, mul-one) (omega arith))
 
 pub high-wider : (j k : ℕ) (x : Float) → 2 ^ j ≤ 2 ^ k → Under j x → T (lt x (fin false 1 (pos k)))
 unfolding lt
 high-wider j k _ p lt-inf = tt
-high-wider j k _ p (lt-neg m e) = lt→ltb 0 (m * up e * 1 + 1 * 2 ^ k * down e) (let z = mul-le-mul (pow-pos k) (down-pos e) in omega arith)
-high-wider j k _ p (lt-fin m e g) = lt→ltb (m * up e * 1) (1 * 2 ^ k * down e) (let z = mul-le-mul-right (down e) p in rw (one-mul, mul-one) (omega arith))
+high-wider j k _ p (lt-neg m e) =
+    lt→ltb 0 (m * up e * 1 + 1 * 2 ^ k * down e) (let z = mul-le-mul (pow-pos k) (down-pos e) in omega arith)
+high-wider j k _ p (lt-fin m e g) =
+    lt→ltb (m * up e * 1) (1 * 2 ^ k * down e)
+    (let z = mul-le-mul-right (down e) p in rw (one-mul, mul-one) (omega arith))
 
 -- ---- the magnitude
 

@@ -51,4 +51,5 @@ pub by-bits : (f : ℕ → ℕ → ℕ) (a b : ℤ) {r : ℤ} {u v w : ℕ} → 
     → u ≡ ofZ w32 (toZ w32 (ofZ w32 a)) → v ≡ ofZ w32 (toZ w32 (ofZ w32 b)) → w ≡ f u v → r ≡ toZ w32 w
     → toZ w32 (ofZ w32 r) ≡ toZ w32 (f (ofZ w32 a) (ofZ w32 b))
 by-bits f a b {r} {u} {v} {w} p q s e g h k =
-    back r s ∙ k ∙ ap (toZ w32) (h ∙ ap (λ (n : ℕ). f n v) (e ∙ ap (ofZ w32) (back a p)) ∙ ap (f (ofZ w32 a)) (g ∙ ap (ofZ w32) (back b q)))
+    back r s ∙ k ∙ ap (toZ w32)
+    (h ∙ ap (λ (n : ℕ). f n v) (e ∙ ap (ofZ w32) (back a p)) ∙ ap (f (ofZ w32 a)) (g ∙ ap (ofZ w32) (back b q)))

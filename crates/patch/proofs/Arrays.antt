@@ -1,4 +1,5 @@
--- A patch that a function is given or gets has arrays as long as they are declared: what the law of the round trip asks. Assumes nothing.
+-- A patch that a function is given or gets has arrays as long as they are declared: what the law of the round trip
+-- asks. Assumes nothing.
 use mathlib.Core.Path.{_≡_, sym, _∙_}
 use mathlib.Core.List.{List, [], _∷_, map}
 use Prim.Native.Nat.{ℕ, zero, suc, _<_}
@@ -15,10 +16,13 @@ use Rattle.patch.specs.Form.{operatorAt, noOperator, ShapedEnvelope, Sha
 use Rattle.patch.proofs.Patch as T
 use Rattle.patch.proofs.Operator as O
 
-operator-shaped : (o : Operator) (vs : List Val) → shadow (O.the-field .row .own (O.the-field .into o) vs) → ShapedEnvelope (o .envelope)
+operator-shaped : (o : Operator) (vs : List Val) → shadow (O.the-field .row .own (O.the-field .into o) vs)
+    → ShapedEnvelope (o .envelope)
 operator-shaped o vs g = record { rates = search needs; levels = search needs }
 
-each-shaped : (os : List Operator) (us : List Val) → shadow (each (O.the-field .row .Denot) (O.the-field .row .own) (map (O.the-field .into) os) us) → (k : ℕ) → k < length os → ShapedEnvelope (getD os k noOperator .envelope)
+each-shaped : (os : List Operator) (us : List Val)
+    → shadow (each (O.the-field .row .Denot) (O.the-field .row .own) (map (O.the-field .into) os) us) → (k : ℕ)
+    → k < length os → ShapedEnvelope (getD os k noOperator .envelope)
 each-shaped [] us g k h = let z : ⊥ = omega arith in absurd z
 each-shaped (o ∷ os) [] g k h = absurd g
 each-shaped (o ∷ os) (u ∷ us) g zero h = operator-shaped o (u ∷ []) (g .0)

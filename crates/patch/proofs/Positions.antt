@@ -3,8 +3,15 @@ use mathlib.Core.Path.{_≡_, refl, sym, _∙_, ap}
 use mathlib.Core.List.{List, [], _∷_, map}
 use Prim.Native.Nat.{ℕ, zero, suc, _+_, _*_}
 use lib.ListN.{getD}
-use Rattle.patch.specs.Layout.{EnvelopeName, Rate, Level, ScalingName, BreakPoint, LeftDepth, RightDepth, LeftCurve, RightCurve, OperatorName, Stage, Scaling, RateScaling, Detune, AmplitudeSensitivity, VelocitySensitivity, OutputLevel, Mode, Coarse, Fine, LfoName, LfoRate, LfoDelay, PitchDepth, AmplitudeDepth, LfoReset, Waveform, PitchSensitivity, Place, Of, Pitch, Algorithm, Feedback, Reset, Lfo, Transpose, Letter, envelopeNames, scalingNames, operatorNames, lfoNames, letters, sharedNames, layout}
-use Rattle.patch.specs.Form.{envelopeWith, scalingWith, operatorWith, modulationsWith, nameWith, patchWith, envelopeNumber, scalingNumber, operatorNumber, lfoNumber, operatorAt, numberOf}
+use Rattle.patch.specs.Layout.{EnvelopeName, Rate, Level, ScalingName, BreakPoint, LeftDepth, RightDepth}
+use Rattle.patch.specs.Layout.{LeftCurve, RightCurve, OperatorName, Stage, Scaling, RateScaling, Detune}
+use Rattle.patch.specs.Layout.{AmplitudeSensitivity, VelocitySensitivity, OutputLevel, Mode, Coarse, Fine}
+use Rattle.patch.specs.Layout.{LfoName, LfoRate, LfoDelay, PitchDepth, AmplitudeDepth, LfoReset, Waveform}
+use Rattle.patch.specs.Layout.{PitchSensitivity, Place, Of, Pitch, Algorithm, Feedback, Reset, Lfo, Transpose}
+use Rattle.patch.specs.Layout.{Letter, envelopeNames, scalingNames, operatorNames, lfoNames, letters, sharedNames}
+use Rattle.patch.specs.Layout.{layout}
+use Rattle.patch.specs.Form.{envelopeWith, scalingWith, operatorWith, modulationsWith, nameWith, patchWith}
+use Rattle.patch.specs.Form.{envelopeNumber, scalingNumber, operatorNumber, lfoNumber, operatorAt, numberOf}
 
 unfoldable pub envelopePosition : EnvelopeName → ℕ
 envelopePosition (Rate i) = i
@@ -56,18 +63,22 @@ countFrom k (suc count) = k ∷ countFrom (suc k) count
 
 -- layout order is 0 to 154: no field stands there twice
 pub in-order : map position layout ≡ countFrom 0 155
-unfolding position countFrom operatorPosition envelopePosition scalingPosition lfoPosition layout operatorNames envelopeNames scalingNames lfoNames letters sharedNames
+unfolding position countFrom operatorPosition envelopePosition scalingPosition lfoPosition layout operatorNames
+    envelopeNames scalingNames lfoNames letters sharedNames
 in-order = refl
 
 -- the layout's numbers of a patch that is made of numbers are these
 pub numbers-with : (g : Place → ℕ) (a : ℕ) → map (numberOf (patchWith g a)) layout ≡ map g layout
-unfolding layout operatorNames envelopeNames scalingNames lfoNames letters sharedNames numberOf patchWith operatorWith envelopeWith scalingWith modulationsWith nameWith operatorAt operatorNumber envelopeNumber scalingNumber lfoNumber
+unfolding layout operatorNames envelopeNames scalingNames lfoNames letters sharedNames numberOf patchWith operatorWith
+    envelopeWith scalingWith modulationsWith nameWith operatorAt operatorNumber envelopeNumber scalingNumber lfoNumber
 numbers-with g a = refl
 
 by-position : (g : Place → ℕ) (a : ℕ) → patchWith (λ n. getD (map g layout) (position n) 0) a ≡ patchWith g a
-unfolding position operatorPosition envelopePosition scalingPosition lfoPosition layout operatorNames envelopeNames scalingNames lfoNames letters sharedNames patchWith operatorWith envelopeWith scalingWith modulationsWith nameWith
+unfolding position operatorPosition envelopePosition scalingPosition lfoPosition layout operatorNames envelopeNames
+    scalingNames lfoNames letters sharedNames patchWith operatorWith envelopeWith scalingWith modulationsWith nameWith
 by-position g a = refl
 
 -- a patch that is made of numbers is made of the layout's
 pub patch-with : (g h : Place → ℕ) (a : ℕ) → map g layout ≡ map h layout → patchWith g a ≡ patchWith h a
-patch-with g h a e = sym (by-position g a) ∙ ap (λ (l : List ℕ). patchWith (λ n. getD l (position n) 0) a) e ∙ by-position h a
+patch-with g h a e =
+    sym (by-position g a) ∙ ap (λ (l : List ℕ). patchWith (λ n. getD l (position n) 0) a) e ∙ by-position h a

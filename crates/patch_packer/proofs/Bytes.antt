@@ -11,7 +11,8 @@ use lib.ListN.{getD, replicate}
 use lib.Seq.{paste}
 use Rattle.patch.specs.declared.Operator.{Operator}
 use Rattle.patch.specs.declared.Patch.{Patch}
-use Rattle.patch.specs.Layout.{Place, Of, later, envelopeField, scalingField, operatorField, lfoField, fieldOf, envelopeNames, scalingNames, operatorNames, lfoNames, letters, sharedNames, layout}
+use Rattle.patch.specs.Layout.{Place, Of, later, envelopeField, scalingField, operatorField, lfoField, fieldOf}
+use Rattle.patch.specs.Layout.{envelopeNames, scalingNames, operatorNames, lfoNames, letters, sharedNames, layout}
 use Rattle.patch.specs.Form.{envelopeNumber, scalingNumber, operatorNumber, lfoNumber, operatorAt, numberOf}
 use Rattle.patch.specs.Packed.{within, operatorFits, patchFits}
 use Rattle.patch_packer.specs.Packing.{bytesOf, operatorBytes, sharedBytes, packed}
@@ -25,7 +26,9 @@ module _ (p : Patch) (fits : patchFits p ≡ true) where
   W ns = within fieldOf (numberOf p) ns ≡ true
 
   split : (xs ys : List Place) → W (xs ++ ys) → W xs × W ys
-  split xs ys e = and-eq-true-iff (within fieldOf (numberOf p) xs) (within fieldOf (numberOf p) ys) .0 (sym (within-append fieldOf (numberOf p) xs ys) ∙ e)
+  split xs ys e =
+      and-eq-true-iff (within fieldOf (numberOf p) xs) (within fieldOf (numberOf p) ys) .0
+      (sym (within-append fieldOf (numberOf p) xs ys) ∙ e)
 
   by-parts : W (map (Of 0) operatorNames) × W (map (Of 1) operatorNames) × W (map (Of 2) operatorNames) × W (map (Of 3) operatorNames) × W (map (Of 4) operatorNames) × W (map (Of 5) operatorNames) × W sharedNames
   unfolding patchFits layout
@@ -90,14 +93,17 @@ module _ (p : Patch) (fits : patchFits p ≡ true) where
       ∷ getD (p .name) 8 0
       ∷ getD (p .name) 9 0
       ∷ []
-  unfolding sharedBytes sumsOf sumOf every sharedNames envelopeNames lfoNames letters fieldOf later lfoField envelopeField numberOf lfoNumber envelopeNumber
-  shared-bytes = whole-bytes fieldOf (numberOf p) sharedNames (by-parts .6) refl 102 26 ∙ simp (mul-one, add-zero, add-assoc)
+  unfolding sharedBytes sumsOf sumOf every sharedNames envelopeNames lfoNames letters fieldOf later lfoField
+      envelopeField numberOf lfoNumber envelopeNumber
+  shared-bytes =
+      whole-bytes fieldOf (numberOf p) sharedNames (by-parts .6) refl 102 26 ∙ simp (mul-one, add-zero, add-assoc)
 
 -- an operator that fits
 module _ (o : Operator) (fits : operatorFits o ≡ true) where
   -- the limits of the numbers that share a byte
   pub operator-low : (o .«keyboard_scaling» .«left_curve» ≤ 3) × (o .«keyboard_scaling» .«right_curve» ≤ 3) × (o .«rate_scaling» ≤ 7) × (o .detune ≤ 14) × (o .«amp_mod_sensitivity» ≤ 3) × (o .«velocity_sensitivity» ≤ 7) × (o .mode ≤ 1) × (o .coarse ≤ 31)
-  unfolding operatorFits operatorNames envelopeNames scalingNames operatorField scalingField operatorNumber scalingNumber
+  unfolding operatorFits operatorNames envelopeNames scalingNames operatorField scalingField operatorNumber
+      scalingNumber
   operator-low =
       let c = each-within operatorField (operatorNumber o) operatorNames fits .1 .1 .1 .1 .1 .1 .1 .1 .1 .1 .1 in
       let r = c .1 .1 in
@@ -125,13 +131,17 @@ module _ (o : Operator) (fits : operatorFits o ≡ true) where
       ∷ (o .mode + o .coarse * 2)
       ∷ o .fine
       ∷ []
-  unfolding operatorBytes operatorFits sumsOf sumOf every operatorNames envelopeNames scalingNames operatorField envelopeField scalingField operatorNumber envelopeNumber scalingNumber
+  unfolding operatorBytes operatorFits sumsOf sumOf every operatorNames envelopeNames scalingNames operatorField
+      envelopeField scalingField operatorNumber envelopeNumber scalingNumber
   operator-bytes = whole-bytes operatorField (operatorNumber o) operatorNames fits refl 0 17 ∙ simp (mul-one, add-zero)
 
 -- operator k's bytes in the patch are the operator's own
-block : (p : Patch) (k : ℕ) → bytesOf fieldOf (numberOf p) (map (Of k) operatorNames) (k * 17) 17 ≡ operatorBytes (operatorAt (p .op) k)
+block : (p : Patch) (k : ℕ)
+    → bytesOf fieldOf (numberOf p) (map (Of k) operatorNames) (k * 17) 17 ≡ operatorBytes (operatorAt (p .op) k)
 unfolding operatorBytes fieldOf numberOf
-block p k = ap (λ (x : ℕ). bytesOf fieldOf (numberOf p) (map (Of k) operatorNames) x 17) (sym (add-zero (k * 17))) ∙ bytes-later operatorField fieldOf (numberOf p) (Of k) (k * 17) (λ m. refl) operatorNames 17 0
+block p k =
+    ap (λ (x : ℕ). bytesOf fieldOf (numberOf p) (map (Of k) operatorNames) x 17) (sym (add-zero (k * 17))) ∙ bytes-later
+    operatorField fieldOf (numberOf p) (Of k) (k * 17) (λ m. refl) operatorNames 17 0
 
 join : {a b c d : List ℕ} → a ≡ b → c ≡ d → a ++ c ≡ b ++ d
 join e f = rw (e, f)
@@ -140,7 +150,8 @@ join e f = rw (e, f)
 pub by-blocks : (p : Patch)
     → packed p
     ≡ operatorBytes (operatorAt (p .op) 0) ++ (operatorBytes (operatorAt (p .op) 1) ++ (operatorBytes (operatorAt (p .op) 2) ++ (operatorBytes (operatorAt (p .op) 3) ++ (operatorBytes (operatorAt (p .op) 4) ++ (operatorBytes (operatorAt (p .op) 5) ++ sharedBytes p)))))
-unfolding packed sharedBytes layout every operatorNames envelopeNames scalingNames lfoNames letters sharedNames fieldOf later operatorField envelopeField scalingField lfoField
+unfolding packed sharedBytes layout every operatorNames envelopeNames scalingNames lfoNames letters sharedNames fieldOf
+    later operatorField envelopeField scalingField lfoField
 by-blocks p =
     bytes-append fieldOf (numberOf p) 17 (map (Of 0) operatorNames) _ refl refl 17 111 0 refl
     ∙ join (block p 0) (bytes-append fieldOf (numberOf p) 34 (map (Of 1) operatorNames) _ refl refl 17 94 17 refl
@@ -162,11 +173,15 @@ firstBlocks os zero = replicate 128 0
 firstBlocks os (suc k) = paste (firstBlocks os k) (17 * k) (operatorBytes (operatorAt os k)) 17
 
 -- one more
-pub next-block : (os : List Operator) (k : ℕ) (l m : List ℕ) → l ≡ firstBlocks os k → m ≡ paste l (17 * k) (operatorBytes (operatorAt os k)) 17 → m ≡ firstBlocks os (k + 1)
+pub next-block : (os : List Operator) (k : ℕ) (l m : List ℕ) → l ≡ firstBlocks os k
+    → m ≡ paste l (17 * k) (operatorBytes (operatorAt os k)) 17 → m ≡ firstBlocks os (k + 1)
 unfolding firstBlocks
 next-block os k l m e f = rw (add-one, sym e) f
 
 -- six operators and the rest, each pasted into its place, are the packed patch
-pub pasted : (p : Patch) (k : ℕ) (l m : List ℕ) → k ≡ 6 → l ≡ firstBlocks (p .op) k → m ≡ paste l 102 (sharedBytes p) 26 → m ≡ packed p
+pub pasted : (p : Patch) (k : ℕ) (l m : List ℕ) → k ≡ 6 → l ≡ firstBlocks (p .op) k → m ≡ paste l 102 (sharedBytes p) 26
+    → m ≡ packed p
 unfolding firstBlocks
-pasted p k l m six e f = f ∙ ap (λ (x : List ℕ). paste x 102 (sharedBytes p) 26) (e ∙ ap (firstBlocks (p .op)) six) ∙ (whole p ∙ sym (by-blocks p))
+pasted p k l m six e f =
+    f ∙ ap (λ (x : List ℕ). paste x 102 (sharedBytes p) 26) (e ∙ ap (firstBlocks (p .op)) six)
+    ∙ (whole p ∙ sym (by-blocks p))

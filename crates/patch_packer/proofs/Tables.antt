@@ -1,9 +1,11 @@
--- Laws of any table of fields: what its bytes are, block by block, and that each field is read back from them. Assumes nothing.
+-- Laws of any table of fields: what its bytes are, block by block, and that each field is read back from them. Assumes
+-- nothing.
 use mathlib.Core.Path.{_≡_, refl, sym, _∙_, ap, ap₂}
 use mathlib.Core.Bool.{Bool, true, false, cond, _&&_, true≢false, and-eq-true-iff}
 use mathlib.Core.List.{List, [], _∷_, _++_, map}
 use Prim.Native.Nat.{ℕ, zero, suc, _+_, _-_, _*_, _/_, _%_, _^_, _<_, _≤_}
-use native.Mathlib.Nat.{add-zero, zero-add, suc-add, add-suc, zero-mul, add-assoc, add-comm, add-mul, mul-assoc, mod-eq-of-lt, mod-lt, mod-mod, mul-div-cancel, add-mul-mod-self-right}
+use native.Mathlib.Nat.{add-zero, zero-add, suc-add, add-suc, zero-mul, add-assoc, add-comm, add-mul, mul-assoc}
+use native.Mathlib.Nat.{mod-eq-of-lt, mod-lt, mod-mod, mul-div-cancel, add-mul-mod-self-right}
 use native.Mathlib.Omega.{arith}
 use borrow.Author.Tests.{eqb-true, eqb-false, eq-eqb, ne-eqb, leb-true, lt-leb, le-ltb, ltb-true}
 use lib.Dec.{eqb, leb, ltb}
@@ -20,11 +22,13 @@ module _ {N : Type 0} (field : N → Field) (g : N → ℕ) where
   length-bytes ns k zero = refl
   length-bytes ns k (suc count) = ap suc (length-bytes ns (suc k) count)
 
-  pub getD-bytes : (ns : List N) (count k i : ℕ) → i < count → getD (bytesOf field g ns k count) i 0 ≡ byteOf field g ns (k + i)
+  pub getD-bytes : (ns : List N) (count k i : ℕ) → i < count
+      → getD (bytesOf field g ns k count) i 0 ≡ byteOf field g ns (k + i)
   unfolding bytesOf
   getD-bytes ns zero k i h = let z : ⊥ = omega arith in absurd z
   getD-bytes ns (suc count) k zero h = ap (byteOf field g ns) (sym (add-zero k))
-  getD-bytes ns (suc count) k (suc i) h = getD-bytes ns count (suc k) i (omega arith) ∙ ap (byteOf field g ns) (omega arith)
+  getD-bytes ns (suc count) k (suc i) h =
+      getD-bytes ns count (suc k) i (omega arith) ∙ ap (byteOf field g ns) (omega arith)
 
   byte-append : (xs ys : List N) (k : ℕ) → byteOf field g (xs ++ ys) k ≡ byteOf field g xs k + byteOf field g ys k
   unfolding byteOf
@@ -32,12 +36,16 @@ module _ {N : Type 0} (field : N → Field) (g : N → ℕ) where
   byte-append (x ∷ xs) ys k = at (eqb (field x .byte) k) (byte-append xs ys k)
     where
       at : (b : Bool) → byteOf field g (xs ++ ys) k ≡ byteOf field g xs k + byteOf field g ys k
-          → cond b (placed (field x) (g x) + byteOf field g (xs ++ ys) k) (byteOf field g (xs ++ ys) k) ≡ cond b (placed (field x) (g x) + byteOf field g xs k) (byteOf field g xs k) + byteOf field g ys k
-      at true e = ap (λ (y : ℕ). placed (field x) (g x) + y) e ∙ sym (add-assoc (placed (field x) (g x)) (byteOf field g xs k) (byteOf field g ys k))
+          → cond b (placed (field x) (g x) + byteOf field g (xs ++ ys) k) (byteOf field g (xs ++ ys) k)
+          ≡ cond b (placed (field x) (g x) + byteOf field g xs k) (byteOf field g xs k) + byteOf field g ys k
+      at true e =
+          ap (λ (y : ℕ). placed (field x) (g x) + y) e ∙ sym
+          (add-assoc (placed (field x) (g x)) (byteOf field g xs k) (byteOf field g ys k))
       at false e = e
 
   -- a byte where no field lies is 0
-  byte-none : (t : ℕ → Bool) (k : ℕ) → t k ≡ false → (ns : List N) → every (λ n. t (field n .byte)) ns ≡ true → byteOf field g ns k ≡ 0
+  byte-none : (t : ℕ → Bool) (k : ℕ) → t k ≡ false → (ns : List N) → every (λ n. t (field n .byte)) ns ≡ true
+      → byteOf field g ns k ≡ 0
   unfolding byteOf every
   byte-none t k e [] h = refl
   byte-none t k e (n ∷ ns) h =
@@ -51,24 +59,32 @@ module _ {N : Type 0} (field : N → Field) (g : N → ℕ) where
 
   module _ (m : ℕ) (xs ys : List N) (low : every (λ n. ltb (field n .byte) m) xs ≡ true) (high : every (λ n. leb m (field n .byte)) ys ≡ true) where
     left-byte : (k : ℕ) → k < m → byteOf field g (xs ++ ys) k ≡ byteOf field g xs k
-    left-byte k h = byte-append xs ys k ∙ ap (λ (x : ℕ). byteOf field g xs k + x) (byte-none (λ b. leb m b) k (lt-leb m k h) ys high) ∙ add-zero (byteOf field g xs k)
+    left-byte k h =
+        byte-append xs ys k ∙ ap (λ (x : ℕ). byteOf field g xs k + x)
+        (byte-none (λ b. leb m b) k (lt-leb m k h) ys high) ∙ add-zero (byteOf field g xs k)
 
     right-byte : (k : ℕ) → m ≤ k → byteOf field g (xs ++ ys) k ≡ byteOf field g ys k
-    right-byte k h = byte-append xs ys k ∙ ap (λ (x : ℕ). x + byteOf field g ys k) (byte-none (λ b. ltb b m) k (le-ltb k m h) xs low) ∙ zero-add (byteOf field g ys k)
+    right-byte k h =
+        byte-append xs ys k ∙ ap (λ (x : ℕ). x + byteOf field g ys k) (byte-none (λ b. ltb b m) k (le-ltb k m h) xs low)
+        ∙ zero-add (byteOf field g ys k)
 
     right-bytes : (count k : ℕ) → m ≤ k → bytesOf field g (xs ++ ys) k count ≡ bytesOf field g ys k count
     unfolding bytesOf
     right-bytes zero k h = refl
     right-bytes (suc count) k h = ap₂ _∷_ (right-byte k h) (right-bytes count (suc k) (omega arith))
 
-    -- where some fields lie before byte m and the others from it on, the bytes are those of the first and then those of the others
-    pub bytes-append : (a b k : ℕ) → k + a ≡ m → bytesOf field g (xs ++ ys) k (a + b) ≡ bytesOf field g xs k a ++ bytesOf field g ys m b
+    -- where some fields lie before byte m and the others from it on, the bytes are those of the first and then those
+    -- of the others
+    pub bytes-append : (a b k : ℕ) → k + a ≡ m
+        → bytesOf field g (xs ++ ys) k (a + b) ≡ bytesOf field g xs k a ++ bytesOf field g ys m b
     unfolding bytesOf
     bytes-append zero b k e =
         let q : k ≡ m = omega arith in
-        ap (bytesOf field g (xs ++ ys) k) (zero-add b) ∙ right-bytes b k (omega arith) ∙ ap (λ (x : ℕ). bytesOf field g ys x b) q
+        ap (bytesOf field g (xs ++ ys) k) (zero-add b) ∙ right-bytes b k (omega arith)
+        ∙ ap (λ (x : ℕ). bytesOf field g ys x b) q
     bytes-append (suc a) b k e =
-        ap (bytesOf field g (xs ++ ys) k) (suc-add a b) ∙ ap₂ _∷_ (left-byte k (omega arith)) (bytes-append a b (suc k) (omega arith))
+        ap (bytesOf field g (xs ++ ys) k) (suc-add a b)
+        ∙ ap₂ _∷_ (left-byte k (omega arith)) (bytes-append a b (suc k) (omega arith))
 
 -- a number that is at most its field's largest is written whole
 pub fits-width : (x : ℕ) (f : Field) → ltb (f .largest) (2 ^ f .width) ≡ true → x ≤ f .largest → x % 2 ^ f .width ≡ x
@@ -92,7 +108,9 @@ module _ {N : Type 0} (field : N → Field) (g : N → ℕ) where
   -- numbers that fit need no cutting
   module _ (ns : List N) (fits : within field g ns ≡ true) (wide : every (λ n. ltb (field n .largest) (2 ^ field n .width)) ns ≡ true) where
     whole-numbers : Each (λ n. g n % 2 ^ field n .width ≡ g n) ns
-    whole-numbers = both-each (λ n t h. fits-width (g n) (field n) t h) ns (each (λ n. ltb (field n .largest) (2 ^ field n .width)) ns wide) (each-within field g ns fits)
+    whole-numbers =
+        both-each (λ n t h. fits-width (g n) (field n) t h) ns
+        (each (λ n. ltb (field n .largest) (2 ^ field n .width)) ns wide) (each-within field g ns fits)
 
     pub whole-bytes : (k count : ℕ) → bytesOf field g ns k count ≡ sumsOf ns k count
     unfolding bytesOf sumsOf
@@ -100,7 +118,8 @@ module _ {N : Type 0} (field : N → Field) (g : N → ℕ) where
     whole-bytes k (suc count) = ap₂ _∷_ (whole-byte ns k whole-numbers) (whole-bytes (suc k) count)
 
 -- equal numbers give equal bytes
-pub same-byte : {N : Type 0} (field : N → Field) (f h : N → ℕ) (ns : List N) (k : ℕ) → Each (λ n. f n ≡ h n) ns → byteOf field f ns k ≡ byteOf field h ns k
+pub same-byte : {N : Type 0} (field : N → Field) (f h : N → ℕ) (ns : List N) (k : ℕ) → Each (λ n. f n ≡ h n) ns
+    → byteOf field f ns k ≡ byteOf field h ns k
 unfolding byteOf
 same-byte field f h [] k es = refl
 same-byte field f h (n ∷ ns) k (e, es) = rw (e, same-byte field f h ns k es)
@@ -119,10 +138,13 @@ module _ {M N : Type 0} (fieldM : M → Field) (field : N → Field) (g : N → 
   later-byte [] k = refl
   later-byte (m ∷ ms) k = rw (moved m, eqb-add base (fieldM m .byte) k, later-byte ms k)
 
-  pub bytes-later : (ms : List M) (count k : ℕ) → bytesOf field g (map f ms) (base + k) count ≡ bytesOf fieldM (λ m. g (f m)) ms k count
+  pub bytes-later : (ms : List M) (count k : ℕ)
+      → bytesOf field g (map f ms) (base + k) count ≡ bytesOf fieldM (λ m. g (f m)) ms k count
   unfolding bytesOf
   bytes-later ms zero k = refl
-  bytes-later ms (suc count) k = ap₂ _∷_ (later-byte ms k) (ap (λ (x : ℕ). bytesOf field g (map f ms) x count) (sym (add-suc base k)) ∙ bytes-later ms count (suc k))
+  bytes-later ms (suc count) k =
+      ap₂ _∷_ (later-byte ms k)
+      (ap (λ (x : ℕ). bytesOf field g (map f ms) x count) (sym (add-suc base k)) ∙ bytes-later ms count (suc k))
 
 -- h lies above f, if both lie in one byte
 unfoldable pub above : Field → Field → Bool
@@ -137,14 +159,17 @@ stacked field (n ∷ ns) = every (λ m. above (field n) (field m)) ns && stacked
 abbrev Multiple : ℕ → ℕ → Type 0
 Multiple t x = (q : ℕ) × (x ≡ q * t)
 
--- a number placed from bit b on, under a multiple of the bits from b + w on: its bits are read back, and the multiple's from d bits above
+-- a number placed from bit b on, under a multiple of the bits from b + w on: its bits are read back, and the
+-- multiple's from d bits above
 module _ (w b q : ℕ) where
   own-bits : (x : ℕ) → (x % 2 ^ w * 2 ^ b + q * 2 ^ (w + b)) / 2 ^ b % 2 ^ w ≡ x % 2 ^ w
   own-bits x =
       let e : x % 2 ^ w * 2 ^ b + q * 2 ^ (w + b) ≡ (x % 2 ^ w + q * 2 ^ w) * 2 ^ b = rw (pow-add 2 w b, ← mul-assoc q (2 ^ w) (2 ^ b), add-mul (x % 2 ^ w) (q * 2 ^ w) (2 ^ b)) in
-      rw (e, mul-div-cancel (x % 2 ^ w + q * 2 ^ w) (pow-pos b), add-mul-mod-self-right (x % 2 ^ w) q (2 ^ w)) (mod-mod x (2 ^ w))
+      rw (e, mul-div-cancel (x % 2 ^ w + q * 2 ^ w) (pow-pos b), add-mul-mod-self-right (x % 2 ^ w) q (2 ^ w))
+      (mod-mod x (2 ^ w))
 
-  higher-bits : (x d : ℕ) → (x % 2 ^ w * 2 ^ b + q * 2 ^ (w + b)) / 2 ^ (w + b + d) ≡ (q * 2 ^ (w + b)) / 2 ^ (w + b + d)
+  higher-bits : (x d : ℕ)
+      → (x % 2 ^ w * 2 ^ b + q * 2 ^ (w + b)) / 2 ^ (w + b + d) ≡ (q * 2 ^ (w + b)) / 2 ^ (w + b + d)
   higher-bits x d =
       let lo : x % 2 ^ w * 2 ^ b < 2 ^ (w + b) = shl-lt w b (mod-lt x (pow-pos w)) in
       sym (shr-shr (x % 2 ^ w * 2 ^ b + q * 2 ^ (w + b)) (w + b) d)
@@ -165,16 +190,20 @@ stack x top bit rest h (q, e) =
 
 module _ {N : Type 0} (field : N → Field) (g : N → ℕ) where
   -- the fields above f in its byte sum up to a multiple of the bits from f's top on
-  multiple : (f : Field) (ns : List N) → every (λ n. above f (field n)) ns ≡ true → Multiple (2 ^ (f .width + f .bit)) (byteOf field g ns (f .byte))
+  multiple : (f : Field) (ns : List N) → every (λ n. above f (field n)) ns ≡ true
+      → Multiple (2 ^ (f .width + f .bit)) (byteOf field g ns (f .byte))
   unfolding every above byteOf placed
   multiple f [] e = (0, sym (zero-mul (2 ^ (f .width + f .bit))))
   multiple f (n ∷ ns) e =
       let p = and-eq-true-iff (above f (field n)) (every (λ m. above f (field m)) ns) .0 e in
       at (eqb (field n .byte) (f .byte)) (p .0) (multiple f ns (p .1))
     where
-      at : (b : Bool) → cond b (leb (f .width + f .bit) (field n .bit)) true ≡ true → Multiple (2 ^ (f .width + f .bit)) (byteOf field g ns (f .byte))
+      at : (b : Bool) → cond b (leb (f .width + f .bit) (field n .bit)) true ≡ true
+          → Multiple (2 ^ (f .width + f .bit)) (byteOf field g ns (f .byte))
           → Multiple (2 ^ (f .width + f .bit)) (cond b (placed (field n) (g n) + byteOf field g ns (f .byte)) (byteOf field g ns (f .byte)))
-      at true h m = stack (g n % 2 ^ field n .width) (f .width + f .bit) (field n .bit) (byteOf field g ns (f .byte)) (leb-true (f .width + f .bit) (field n .bit) h) m
+      at true h m =
+          stack (g n % 2 ^ field n .width) (f .width + f .bit) (field n .bit) (byteOf field g ns (f .byte))
+          (leb-true (f .width + f .bit) (field n .bit) h) m
       at false h m = m
 
   -- what is read back of a field from the bytes of ns
@@ -184,7 +213,8 @@ module _ {N : Type 0} (field : N → Field) (g : N → ℕ) where
   module _ (n : N) (ns : List N) (m : Multiple (2 ^ (field n .width + field n .bit)) (byteOf field g ns (field n .byte))) where
     first-back : Back (n ∷ ns) n
     unfolding byteOf placed
-    first-back = rw (eq-eqb (field n .byte) (field n .byte) refl, m .1) (own-bits (field n .width) (field n .bit) (m .0) (g n))
+    first-back =
+        rw (eq-eqb (field n .byte) (field n .byte) refl, m .1) (own-bits (field n .width) (field n .bit) (m .0) (g n))
 
     other-back : (o : N) → above (field n) (field o) ≡ true → Back ns o → Back (n ∷ ns) o
     unfolding byteOf placed above
@@ -197,7 +227,9 @@ module _ {N : Type 0} (field : N → Field) (g : N → ℕ) where
             let a′ : leb (field n .width + field n .bit) (field o .bit) ≡ true = rw (eq-eqb (field o .byte) (field n .byte) (sym q)) at a in
             let h : field n .width + field n .bit ≤ field o .bit = leb-true (field n .width + field n .bit) (field o .bit) a′ in
             let s : byteOf field g ns (field o .byte) ≡ m .0 * 2 ^ (field n .width + field n .bit) = ap (byteOf field g ns) (sym q) ∙ m .1 in
-            ap (λ (y : ℕ). y % 2 ^ field o .width) (skip (field n .width) (field n .bit) (m .0) (g n) (byteOf field g ns (field o .byte)) (field o .bit) h s) ∙ r
+            ap (λ (y : ℕ). y % 2 ^ field o .width)
+            (skip (field n .width) (field n .bit) (m .0) (g n) (byteOf field g ns (field o .byte)) (field o .bit) h s)
+            ∙ r
         at false e = r
 
   -- each field of a stacked table is read back from its bytes, as many bits of its number as it is wide

@@ -16,7 +16,9 @@ use Rattle.algorithms.specs.Table.{six}
 use Rattle.algorithms.specs.declared.Planned.{Planned}
 use Rattle.algorithms.proofs.Accepted.{accepted-six, planned-few}
 use Rattle.algorithms.specs.declared.Call.{Call}
-use Rattle.plan_text.specs.Text.{Written, wordNone, wordAt, digit, atText, wordFeedback, wordExternal, hexDigit, bytesText, rowText, countText, sourceText, wayText, callText, callsText, refusalText, plannedText, planText}
+use Rattle.plan_text.specs.Text.{Written, wordNone, wordAt, digit, atText, wordFeedback, wordExternal, hexDigit}
+use Rattle.plan_text.specs.Text.{bytesText, rowText, countText, sourceText, wayText, callText, callsText}
+use Rattle.plan_text.specs.Text.{refusalText, plannedText, planText}
 
 -- two runs of stores are one
 sets-append : (xs ys l : List ℕ) (i : ℕ) → sets (sets l i xs) (i + length xs) ys ≡ sets l i (xs ++ ys)
@@ -26,14 +28,16 @@ sets-append (x ∷ xs) ys l i =
     rw e (sets-append xs ys (set l i x) (suc i))
 
 -- a piece behind a piece
-pub then : (before middle after : List ℕ) (at b c : ℕ) (p q : List ℕ) → Written before at p middle b → Written middle b q after c → Written before at (p ++ q) after c
+pub then : (before middle after : List ℕ) (at b c : ℕ) (p q : List ℕ) → Written before at p middle b
+    → Written middle b q after c → Written before at (p ++ q) after c
 then before middle after at b c p q v w = record {
   next-place = omega (arith, v .next-place, w .next-place, length-append p q);
   buffer = w .buffer ∙ rw (v .buffer, v .next-place) (sets-append p q before at);
 }
 
 -- a loop over elements: what is still to come is written behind what was
-pub put-more : (out l : List ℕ) (at k : ℕ) → k < length l → sets out (at + k) (drop k l) ≡ sets (set out (at + k) (getD l k 0)) (at + (k + 1)) (drop (k + 1) l)
+pub put-more : (out l : List ℕ) (at k : ℕ) → k < length l
+    → sets out (at + k) (drop k l) ≡ sets (set out (at + k) (getD l k 0)) (at + (k + 1)) (drop (k + 1) l)
 put-more out l at k h =
     let e : at + (k + 1) ≡ suc (at + k) = omega arith in
     rw (drop-cons l k 0 h, e, add-one)
@@ -59,7 +63,8 @@ unfolding callsText
 calls-append [] ys = refl
 calls-append (x ∷ xs) ys = rw (calls-append xs ys, append-assoc)
 
-pub calls-more : (l : List Call) (k : ℕ) → k < length l → callsText (take (k + 1) l) ≡ callsText (take k l) ++ callText (getD l k noCall)
+pub calls-more : (l : List Call) (k : ℕ) → k < length l
+    → callsText (take (k + 1) l) ≡ callsText (take k l) ++ callText (getD l k noCall)
 unfolding callsText
 calls-more l k h = rw (add-one, take-suc l k noCall h) (calls-append (take k l) (getD l k noCall ∷ []) ∙ rw append-nil)
 
@@ -104,10 +109,12 @@ module _ (bytes : List ℕ) (p : Planned) (e : p ≡ planned (length bytes) (six
   row-most z = accepted-six (length bytes) (six bytes) (ap (λ (x : Planned). x .number) (sym e) ∙ z)
 
   pub calls-most : p .number ≡ 0 → p .plan .count ≤ 6
-  calls-most z = omega (arith, row-most z, planned-few (length bytes) (six bytes), ap (λ (x : Planned). x .plan .count) e)
+  calls-most z =
+      omega (arith, row-most z, planned-few (length bytes) (six bytes), ap (λ (x : Planned). x .plan .count) e)
 
   module _ (before after : List ℕ) (r : ℕ) where
-    pub refusal-printed : (p .number ≡ 0 → ⊥) → Written before 0 (refusalText (p .number) (p .at)) after r → Written before 0 (planText bytes) after r
+    pub refusal-printed : (p .number ≡ 0 → ⊥) → Written before 0 (refusalText (p .number) (p .at)) after r
+        → Written before 0 (planText bytes) after r
     unfolding planText plannedText
     refusal-printed z w = rw (← e, ne-eqb (p .number) 0 z) w
 

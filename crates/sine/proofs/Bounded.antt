@@ -1,6 +1,5 @@
--- Every entry of the sine table is finite and between -1 and 1, and so is every way to the next: one test over the whole table and one
--- over the pairs, which antt computes, carried to each lookup.
--- Assumes nothing.
+-- Every entry of the sine table is finite and between -1 and 1, and so is every way to the next: one test over the
+-- whole table and one over the pairs, which antt computes, carried to each lookup. Assumes nothing.
 use mathlib.Core.Bool.{true, false}
 use mathlib.Core.List.{List, [], _∷_}
 use Prim.Native.Nat.{ℕ, zero, suc, _+_, _*_, _/_, _^_, _<_}
@@ -44,4 +43,5 @@ entry-within k h = at-each sinePairs pairs-within k h
 
 -- the entry at a phase and the way to the next are, also at the end of the turn
 pub lookup-within : (phase : ℕ) → phase < 2 ^ 32 → T (within (getD sinePairs (2 * (phase / 2 ^ 23)) nan)) × T (within (getD sinePairs (2 * (phase / 2 ^ 23) + 1) nan))
-lookup-within phase h = (entry-within (2 * (phase / 2 ^ 23)) (omega arith), entry-within (2 * (phase / 2 ^ 23) + 1) (omega arith))
+lookup-within phase h =
+    (entry-within (2 * (phase / 2 ^ 23)) (omega arith), entry-within (2 * (phase / 2 ^ 23) + 1) (omega arith))

@@ -1,5 +1,5 @@
--- The part of a phase below its highest nine bits: over 2 ^ 23 as it stands, or shifted up and over 2 ^ 32, it is the same f32.
--- Assumes nothing.
+-- The part of a phase below its highest nine bits: over 2 ^ 23 as it stands, or shifted up and over 2 ^ 32, it is the
+-- same f32. Assumes nothing.
 use mathlib.Core.Path.{_≡_, sym, ap, _∙_}
 use mathlib.Core.Bool.{true, false}
 use mathlib.Core.List.{List}
@@ -21,13 +21,15 @@ use Rattle.utils.proofs.Whole.{whole-exact}
 use Rattle.sine.specs.Sine.{phaseLine}
 
 -- a whole number over 2 ^ k
-over : (x : Float) (a k : ℕ) → HasValue x false a 1 → div binary32 x (fin false 1 (pos k)) ≡ round binary32 false a (2 ^ k)
+over : (x : Float) (a k : ℕ) → HasValue x false a 1
+    → div binary32 x (fin false 1 (pos k)) ≡ round binary32 false a (2 ^ k)
 unfolding div
 over nan a k v = absurd v
 over (inf s) a k v = absurd v
 over (fin true m e) a k v = on (v .0)
 over (fin false m e) a k v =
-    round-same binary32 false (m * up e * 1) (1 * 2 ^ k * down e) a (2 ^ k) (mul-pos (mul-pos (omega arith) (pow-pos k)) (down-pos e)) (pow-pos k)
+    round-same binary32 false (m * up e * 1) (1 * 2 ^ k * down e) a (2 ^ k)
+    (mul-pos (mul-pos (omega arith) (pow-pos k)) (down-pos e)) (pow-pos k)
     (ap (λ (n : ℕ). n * 2 ^ k) (v .1) ∙ mul-assoc a (down e) (2 ^ k) ∙ ap (λ (n : ℕ). a * n) (mul-comm (down e) (2 ^ k) ∙ ap (λ (n : ℕ). n * down e) (sym (one-mul (2 ^ k)))))
 
 fraction : (p : ℕ) → asFloat (p % 8388608) ⊘ decimal 8388608 0 ≡ asFloat (shifted32 p 9) ⊘ decimal 4294967296 0
@@ -41,7 +43,8 @@ fraction p =
     ∙ sym (over (asFloat (q * 2 ^ 9)) (q * 2 ^ 9) 32 (whole-exact q 9 (omega arith) (omega arith))))
 
 -- the line, with what the highest nine bits leave of the phase
-pub line-is : (pairs : List Float) (p : ℕ) {a way : Float} → a ≡ getD pairs (2 * (p / 2 ^ 23)) nan → way ≡ getD pairs (2 * (p / 2 ^ 23) + 1) nan
+pub line-is : (pairs : List Float) (p : ℕ) {a way : Float} → a ≡ getD pairs (2 * (p / 2 ^ 23)) nan
+    → way ≡ getD pairs (2 * (p / 2 ^ 23) + 1) nan
     → a ⊕ way ⊗ (asFloat (p - p / 8388608 * 8388608) ⊘ decimal 8388608 0) ≡ phaseLine pairs p
 unfolding phaseLine
 line-is pairs p ea ew =

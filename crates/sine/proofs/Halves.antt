@@ -1,5 +1,5 @@
--- A modulation from -31 to 30 turns, lifted by 32: times 2 ^ 25 it is a whole number below 2 ^ 31, half of what it is times 2 ^ 26.
--- Assumes nothing.
+-- A modulation from -31 to 30 turns, lifted by 32: times 2 ^ 25 it is a whole number below 2 ^ 31, half of what it is
+-- times 2 ^ 26. Assumes nothing.
 use mathlib.Core.Path.{_≡_, refl, sym, ap, _∙_, subst}
 use mathlib.Core.Bool.{true, false, _&&_}
 use Prim.Native.Nat.{ℕ, _*_, _^_, _<_, _≤_}
@@ -20,8 +20,10 @@ use mir.ValLaws.{toZ-pos}
 use Rattle.numbers.specs.F32.{_⊕_, _⊗_}
 use Rattle.numbers.proofs.Views.{AtLeast, ge-fin, at-least, Under, lt-fin}
 use Rattle.numbers.proofs.Casts.{no-fraction, digits-lt}
-use Rattle.sine.proofs.Near.{lift, per-turn, lowest, highest, Within, at-most, fewer, near-within, within-whole, within-below}
-use Rattle.sine.proofs.Turns.{value-no-nan, value-signed, value-in, value-cast, raised, at-least-one, large-finite}
+use Rattle.sine.proofs.Near.{lift, per-turn, lowest, highest, Within, at-most, fewer, near-within, within-whole}
+use Rattle.sine.proofs.Near.{within-below}
+use Rattle.sine.proofs.Turns.{value-no-nan, value-signed, value-in, value-cast, raised, at-least-one}
+use Rattle.sine.proofs.Turns.{large-finite}
 
 abbrev pub half : Float
 half = fin false 1 (pos 25)
@@ -58,21 +60,24 @@ normal n d u h p = let z = mul-le-mul-left (n * 2 ^ 25) p in omega arith
 
 module _ (l : Float) (p : T (positive l)) (h : den l ≤ num l) where
   halved-is : l ⊗ half ≡ round binary32 false (num l * 2 ^ 25) (den l * 1)
-  halved-is = mul-at binary32 l half (num l) (den l) (2 ^ 25) 1 p tt (den-pos l) (omega arith) (own-value l p) (refl, refl)
+  halved-is =
+      mul-at binary32 l half (num l) (den l) (2 ^ 25) 1 p tt (den-pos l) (omega arith) (own-value l p) (refl, refl)
 
   scaled-is : l ⊗ per-turn ≡ round binary32 false (num l * 2 ^ 25 * 2 ^ 1) (den l * 1)
   scaled-is =
       mul-at binary32 l per-turn (num l) (den l) (2 ^ 26) 1 p tt (den-pos l) (omega arith) (own-value l p) (refl, refl)
       ∙ ap (λ (n : ℕ). round binary32 false n (den l * 1)) (sym (mul-assoc (num l) (2 ^ 25) (2 ^ 1)))
 
-  doubled : (n : ℕ) → T (finite (l ⊗ half)) → T (finite (l ⊗ per-turn)) → HasValue (l ⊗ half) false n 1 → HasValue (l ⊗ per-turn) false (n * 2 ^ 1) 1
+  doubled : (n : ℕ) → T (finite (l ⊗ half)) → T (finite (l ⊗ per-turn)) → HasValue (l ⊗ half) false n 1
+      → HasValue (l ⊗ per-turn) false (n * 2 ^ 1) 1
   doubled n s t v =
       let a = num l * 2 ^ 25 in
       let c = den l * 1 in
       let d : 0 < c = (let z = den-pos l in omega arith) in
       rw scaled-is
       (raised binary32 a c 1 n d (normal-of-fraction binary32 a c d (normal (num l) (den l) (2 ^ low binary32) h (pow-pos (low binary32))))
-      (subst (λ (z : Float). T (finite z)) halved-is s) (subst (λ (z : Float). T (finite z)) scaled-is t) (subst (λ (z : Float). HasValue z false n 1) halved-is v))
+      (subst (λ (z : Float). T (finite z)) halved-is s) (subst (λ (z : Float). T (finite z)) scaled-is t)
+      (subst (λ (z : Float). HasValue z false n 1) halved-is v))
 
 -- ---- by the code's test
 
@@ -85,7 +90,8 @@ pub record Halved (x : Float) (steps : ℕ) : Type 0 where
   pub small : halves < 2 ^ 31
   pub twice : steps ≡ halves * 2
 
-pub near-halved : (pm : Float) → (le (fin true 31 (pos 0)) pm && le pm (fin false 15 (pos 1))) ≡ true → Halved ((pm ⊕ lift) ⊗ half) (toUnsigned 32 ((pm ⊕ lift) ⊗ per-turn))
+pub near-halved : (pm : Float) → (le (fin true 31 (pos 0)) pm && le pm (fin false 15 (pos 1))) ≡ true
+    → Halved ((pm ⊕ lift) ⊗ half) (toUnsigned 32 ((pm ⊕ lift) ⊗ per-turn))
 near-halved pm h = go (pm ⊕ lift) (near-within pm h)
   where
     go : (l : Float) → Within l → Halved (l ⊗ half) (toUnsigned 32 (l ⊗ per-turn))

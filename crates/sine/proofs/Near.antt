@@ -1,6 +1,6 @@
--- A modulation lifted by 32 and times 2 ^ 26, by where the modulation lies: from -31 to 30 the product is a whole number below 2 ^ 32,
--- and where the lifted one is 64 or more it is 2 ^ 32 at least. Sums and products grow with what they are made of, rounded too.
--- Assumes nothing.
+-- A modulation lifted by 32 and times 2 ^ 26, by where the modulation lies: from -31 to 30 the product is a whole
+-- number below 2 ^ 32, and where the lifted one is 64 or more it is 2 ^ 32 at least. Sums and products grow with what
+-- they are made of, rounded too. Assumes nothing.
 use mathlib.Core.Path.{_≡_, sym, subst}
 use mathlib.Core.Bool.{Bool, true, false, _&&_, cond}
 use Prim.Native.Nat.{ℕ, _+_, _*_, _-_, _^_, _<_, _≤_}
@@ -15,7 +15,8 @@ use lib.Ieee.Fits.{down-pos}
 use lib.Ieee.Order.{round-mono}
 use lib.Ieee.Positive.{positive, between, first-pos, mul-mono}
 use Rattle.numbers.specs.F32.{_⊕_, _⊗_}
-use Rattle.numbers.proofs.Views.{no, both, or-le, or-ge, AtLeast, ge-inf, ge-fin, at-least, Under, lt-inf, lt-neg, lt-fin, nlt-inf, nlt-fin}
+use Rattle.numbers.proofs.Views.{no, both, or-le, or-ge, AtLeast, ge-inf, ge-fin, at-least, Under, lt-inf, lt-neg}
+use Rattle.numbers.proofs.Views.{lt-fin, nlt-inf, nlt-fin}
 use Rattle.numbers.proofs.Casts.{too-large, at-least-no-nan}
 
 -- the lift, the steps of a turn, and the ends of the lifted modulation
@@ -44,14 +45,16 @@ rounded-within : (a c : ℕ) → 0 < c → c ≤ a → a ≤ 62 * c → Within (
 unfolding Within round
 rounded-within a c p h k = (round-mono binary32 1 1 a c (omega arith) p (omega arith), round-mono binary32 a c 62 1 p (omega arith) (omega arith))
 
-lifted-within : (pm : Float) → le (fin true 31 (pos 0)) pm ≡ true → le pm (fin false 15 (pos 1)) ≡ true → Within (pm ⊕ lift)
+lifted-within : (pm : Float) → le (fin true 31 (pos 0)) pm ≡ true → le pm (fin false 15 (pos 1)) ≡ true
+    → Within (pm ⊕ lift)
 unfolding add sum le lt eq
 lifted-within nan h k = no h
 lifted-within (inf true) h k = no h
 lifted-within (inf false) h k = no k
 lifted-within (fin false m e) h k =
     let z = or-le (m * up e * 1) (15 * 2 ^ 1 * down e) true k in
-    rounded-within (m * up e * 1 + 1 * 2 ^ 5 * down e) (down e * 1) (let d = down-pos e in omega arith) (omega arith) (omega arith)
+    rounded-within (m * up e * 1 + 1 * 2 ^ 5 * down e) (down e * 1) (let d =
+    down-pos e in omega arith) (omega arith) (omega arith)
 lifted-within (fin true m e) h k =
     let z = or-ge (31 * 1 * down e) (m * up e * 1) true h in
     let d = down-pos e in
@@ -105,7 +108,8 @@ far-all l h = go l h (at-least 6 l h)
 
 -- ---- by the code's test
 
-pub near-within : (pm : Float) → (le (fin true 31 (pos 0)) pm && le pm (fin false 15 (pos 1))) ≡ true → Within (pm ⊕ lift)
+pub near-within : (pm : Float) → (le (fin true 31 (pos 0)) pm && le pm (fin false 15 (pos 1))) ≡ true
+    → Within (pm ⊕ lift)
 near-within pm h =
     let p = both (le (fin true 31 (pos 0)) pm) (le pm (fin false 15 (pos 1))) h in
     lifted-within pm (p .0) (p .1)

@@ -1,5 +1,5 @@
--- The line by pairs is the Rust's line between two entries: over the pairs of a table it reads the first entry and the difference of the two.
--- Assumes nothing.
+-- The line by pairs is the Rust's line between two entries: over the pairs of a table it reads the first entry and the
+-- difference of the two. Assumes nothing.
 use mathlib.Core.Path.{_≡_, refl}
 use mathlib.Core.List.{List, [], _∷_}
 use Prim.Native.Nat.{ℕ, zero, suc, _+_, _*_, _/_, _^_, _<_, _≤_}
@@ -13,7 +13,8 @@ use Rattle.sine.specs.Pairs.{pairsOf, sinePairs}
 use Rattle.sine.specs.Sine.{entryLine, phaseLine}
 
 -- at twice an index stands the entry
-pub at-twice : (n : ℕ) (lut : List Float) (k : ℕ) → k < n → n < length lut → getD (pairsOf n lut) (2 * k) nan ≡ getD lut k nan
+pub at-twice : (n : ℕ) (lut : List Float) (k : ℕ) → k < n → n < length lut
+    → getD (pairsOf n lut) (2 * k) nan ≡ getD lut k nan
 unfolding pairsOf
 at-twice zero lut k h l = absurd (not-suc-le-zero h)
 at-twice (suc n) [] k h l = absurd (not-suc-le-zero l)
@@ -24,7 +25,8 @@ at-twice (suc n) (a ∷ b ∷ lut) (suc k) h l =
     rw e (at-twice n (b ∷ lut) k (le-of-suc-le-suc h) (le-of-suc-le-suc l))
 
 -- and after it the way to the next
-pub after-twice : (n : ℕ) (lut : List Float) (k : ℕ) → k < n → n < length lut → getD (pairsOf n lut) (2 * k + 1) nan ≡ getD lut (k + 1) nan ⊖ getD lut k nan
+pub after-twice : (n : ℕ) (lut : List Float) (k : ℕ) → k < n → n < length lut
+    → getD (pairsOf n lut) (2 * k + 1) nan ≡ getD lut (k + 1) nan ⊖ getD lut k nan
 unfolding pairsOf
 after-twice zero lut k h l = absurd (not-suc-le-zero h)
 after-twice (suc n) [] k h l = absurd (not-suc-le-zero l)
@@ -36,7 +38,8 @@ after-twice (suc n) (a ∷ b ∷ lut) (suc k) h l =
     rw (e, f) (after-twice n (b ∷ lut) k (le-of-suc-le-suc h) (le-of-suc-le-suc l))
 
 -- the line by the pairs of one turn is the table's own
-pub pairs-line : (lut : List Float) (p : ℕ) → p < 2 ^ 32 → 513 ≤ length lut → phaseLine (pairsOf 512 lut) p ≡ entryLine lut p
+pub pairs-line : (lut : List Float) (p : ℕ) → p < 2 ^ 32 → 513 ≤ length lut
+    → phaseLine (pairsOf 512 lut) p ≡ entryLine lut p
 unfolding phaseLine entryLine
 pairs-line lut p h l =
     let k : p / 2 ^ 23 < 512 = omega arith in

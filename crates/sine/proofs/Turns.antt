@@ -1,14 +1,16 @@
--- A modulation from -31 to 30 turns, lifted by 32: times 2 ^ 32 it is whole, and 64 times what it is times 2 ^ 26, since a power of two moves the
--- exponent alone. Assumes nothing.
+-- A modulation from -31 to 30 turns, lifted by 32: times 2 ^ 32 it is whole, and 64 times what it is times 2 ^ 26,
+-- since a power of two moves the exponent alone. Assumes nothing.
 use mathlib.Core.Path.{_≡_, refl, sym, ap, _∙_, subst}
 use mathlib.Core.Bool.{true, false, _&&_}
 use Prim.Native.Nat.{ℕ, _*_, _-_, _/_, _%_, _^_, _<_, _≤_}
-use native.Mathlib.Nat.{mul-le-mul-left, mul-assoc, mul-one, mul-right-comm, mul-div-cancel, mul-mod-left, eq-of-mul-eq-mul-right}
+use native.Mathlib.Nat.{mul-le-mul-left, mul-assoc, mul-one, mul-right-comm, mul-div-cancel, mul-mod-left}
+use native.Mathlib.Nat.{eq-of-mul-eq-mul-right}
 use native.Mathlib.Omega.{arith}
 use lib.Dec.{T, leb, ltb, lt→ltb, le→leb}
 use lib.IntN.{ℤ, pos, negsuc}
 use lib.Pow.{pow-pos}
-use lib.Ieee.{Float, nan, inf, fin, Format, binary32, binary64, prec, low, size, up, down, lt, le, eq, mul, round, fits, isNan, whole, toUnsigned, toSigned, inSigned}
+use lib.Ieee.{Float, nan, inf, fin, Format, binary32, binary64, prec, low, size, up, down, lt, le, eq, mul, round, fits}
+use lib.Ieee.{isNan, whole, toUnsigned, toSigned, inSigned}
 use lib.Ieee.Exact.{HasValue}
 use lib.Ieee.Fits.{and-i, down-pos, mul-fits}
 use lib.Ieee.Positive.{positive, num, den, den-pos, own-value, between, positive-finite, le→cross, mul-at, mul-mono}
@@ -79,7 +81,8 @@ lowered (fin s m e) n d p v =
     (v .0, mul-one (m * up e) ∙ eq-of-mul-eq-mul-right d p (m * up e) (n * down e) (v .1 ∙ mul-right-comm n d (down e)))
 
 -- a whole number in the normal range, and 2 ^ t times as much
-pub raised : (f : Format) (a c t n : ℕ) → 0 < c → prec f ≤ size (a * 2 ^ low f / c) → T (finite (round f false a c)) → T (finite (round f false (a * 2 ^ t) c))
+pub raised : (f : Format) (a c t n : ℕ) → 0 < c → prec f ≤ size (a * 2 ^ low f / c) → T (finite (round f false a c))
+    → T (finite (round f false (a * 2 ^ t) c))
     → HasValue (round f false a c) false n 1 → HasValue (round f false (a * 2 ^ t) c) false (n * 2 ^ t) 1
 raised f a c t n p q s r v =
     let x = round f false a c in
@@ -98,7 +101,8 @@ data Whole : Float → Type 0 where
 
 large-whole : (x : Float) → T (fits binary32 x) → AtLeast 23 x → Under 32 x → Whole x
 large-whole _ f (ge-fin m (negsuc k) g) u = absurd (no-fraction m k (digits-lt m (negsuc k) f) g)
-large-whole _ f (ge-fin m (pos k) g) (lt-fin _ _ l) = is-whole (fin false m (pos k)) (m * 2 ^ k) (omega arith) (refl, refl)
+large-whole _ f (ge-fin m (pos k) g) (lt-fin _ _ l) =
+    is-whole (fin false m (pos k)) (m * 2 ^ k) (omega arith) (refl, refl)
 
 pub large-finite : (x : Float) → AtLeast 23 x → Under 32 x → T (finite x)
 large-finite _ (ge-fin m e g) u = tt
@@ -126,21 +130,24 @@ normal n d u h p = let z = mul-le-mul-left (n * 2 ^ 26) p in omega arith
 
 module _ (l : Float) (p : T (positive l)) (h : den l ≤ num l) where
   scaled-is : l ⊗ per-turn ≡ round binary32 false (num l * 2 ^ 26) (den l * 1)
-  scaled-is = mul-at binary32 l per-turn (num l) (den l) (2 ^ 26) 1 p tt (den-pos l) (omega arith) (own-value l p) (refl, refl)
+  scaled-is =
+      mul-at binary32 l per-turn (num l) (den l) (2 ^ 26) 1 p tt (den-pos l) (omega arith) (own-value l p) (refl, refl)
 
   turned-is : l ⊗ turn ≡ round binary32 false (num l * 2 ^ 26 * 2 ^ 6) (den l * 1)
   turned-is =
       mul-at binary32 l turn (num l) (den l) (2 ^ 32) 1 p tt (den-pos l) (omega arith) (own-value l p) (refl, refl)
       ∙ ap (λ (n : ℕ). round binary32 false n (den l * 1)) (sym (mul-assoc (num l) (2 ^ 26) (2 ^ 6)))
 
-  turned-value : (n : ℕ) → T (finite (l ⊗ per-turn)) → T (finite (l ⊗ turn)) → HasValue (l ⊗ per-turn) false n 1 → HasValue (l ⊗ turn) false (n * 2 ^ 6) 1
+  turned-value : (n : ℕ) → T (finite (l ⊗ per-turn)) → T (finite (l ⊗ turn)) → HasValue (l ⊗ per-turn) false n 1
+      → HasValue (l ⊗ turn) false (n * 2 ^ 6) 1
   turned-value n s t v =
       let a = num l * 2 ^ 26 in
       let c = den l * 1 in
       let d : 0 < c = (let z = den-pos l in omega arith) in
       rw turned-is
       (raised binary32 a c 6 n d (normal-of-fraction binary32 a c d (normal (num l) (den l) (2 ^ low binary32) h (pow-pos (low binary32))))
-      (subst (λ (z : Float). T (finite z)) scaled-is s) (subst (λ (z : Float). T (finite z)) turned-is t) (subst (λ (z : Float). HasValue z false n 1) scaled-is v))
+      (subst (λ (z : Float). T (finite z)) scaled-is s) (subst (λ (z : Float). T (finite z)) turned-is t)
+      (subst (λ (z : Float). HasValue z false n 1) scaled-is v))
 
 -- ---- by the code's test
 
@@ -151,7 +158,8 @@ pub record Turned (x : Float) (steps : ℕ) : Type 0 where
   pub cast : toZ w64 (ofZ w64 (toSigned 63 x)) ≡ pos (steps * 64)
   pub small : steps * 64 < 2 ^ 64
 
-pub near-turned : (pm : Float) → (le (fin true 31 (pos 0)) pm && le pm (fin false 15 (pos 1))) ≡ true → Turned ((pm ⊕ lift) ⊗ turn) (toUnsigned 32 ((pm ⊕ lift) ⊗ per-turn))
+pub near-turned : (pm : Float) → (le (fin true 31 (pos 0)) pm && le pm (fin false 15 (pos 1))) ≡ true
+    → Turned ((pm ⊕ lift) ⊗ turn) (toUnsigned 32 ((pm ⊕ lift) ⊗ per-turn))
 near-turned pm h = go (pm ⊕ lift) (near-within pm h)
   where
     go : (l : Float) → Within l → Turned (l ⊗ turn) (toUnsigned 32 (l ⊗ per-turn))
@@ -165,6 +173,7 @@ near-turned pm h = go (pm ⊕ lift) (near-within pm h)
             record {
               no-nan = value-no-nan (l ⊗ turn) (n * 2 ^ 6) t;
               accepted = value-in 63 (n * 2 ^ 6) (l ⊗ turn) t (omega arith) (omega arith);
-              cast = rw (value-signed 63 (n * 2 ^ 6) (l ⊗ turn) t (omega arith), e) (toZ-pos w64 (n * 64) (omega arith));
+              cast =
+                  rw (value-signed 63 (n * 2 ^ 6) (l ⊗ turn) t (omega arith), e) (toZ-pos w64 (n * 64) (omega arith));
               small = rw e (omega arith);
             }

@@ -1,10 +1,11 @@
--- Bounds on what the ratio computes: each rounding keeps the order, so that a pitch stays from 8 to 248, and 256 times its part past the whole
--- number below 256. Assumes nothing.
+-- Bounds on what the ratio computes: each rounding keeps the order, so that a pitch stays from 8 to 248, and 256 times
+-- its part past the whole number below 256. Assumes nothing.
 use mathlib.Core.Path.{_≡_, refl, sym, _∙_, ap, subst}
 use mathlib.Core.Bool.{Bool, true, false, cond}
 use mathlib.Core.List.{List}
 use Prim.Native.Nat.{ℕ, zero, suc, _+_, _-_, _*_, _/_, _%_, _^_, _≤_, _<_, compare}
-use native.Mathlib.Nat.{mul-one, mul-assoc, mul-right-comm, add-mul, mul-le-mul, mul-le-mul-right, div-lt-iff-lt-mul, div-add-mod', mod-lt}
+use native.Mathlib.Nat.{mul-one, mul-assoc, mul-right-comm, add-mul, mul-le-mul, mul-le-mul-right, div-lt-iff-lt-mul}
+use native.Mathlib.Nat.{div-add-mod', mod-lt}
 use native.Mathlib.Omega.{arith}
 use borrow.Author.Tests.{lt-ltb, le-ltb, leb-true, leb-false}
 use lib.Dec.{T, ltb, leb}
@@ -16,7 +17,8 @@ use lib.Ieee.Exact.{HasValue}
 use lib.Ieee.Back.{round-whole}
 use lib.Ieee.Order.{round-mono}
 use lib.Ieee.Fits.{down-pos, round-fits, and-l, and-r}
-use lib.Ieee.{Float, nan, inf, fin, binary32, up, down, lt, le, eq, fits, neg, add, sub, mul, sum, round, units, odd, nearest, size, prec, low, emax, ofInt, toUnsigned}
+use lib.Ieee.{Float, nan, inf, fin, binary32, up, down, lt, le, eq, fits, neg, add, sub, mul, sum, round, units, odd}
+use lib.Ieee.{nearest, size, prec, low, emax, ofInt, toUnsigned}
 use Rattle.numbers.proofs.Views.{no, on, or-le, or-ge}
 use Rattle.numbers.proofs.Casts.{digits-lt}
 use Rattle.numbers.specs.F32.{_⊕_, _⊖_, _⊗_, decimal, minusDecimal, asFloat}
@@ -91,7 +93,8 @@ upto-part M k _ (p-fin m e) h = upto m e (subst (λ (x : ℕ). m * up e * 2 ^ su
 pub data Sized (c : ℕ) : Float → Type 0 where
   sized : (s : Bool) (m : ℕ) (e : ℤ) → m * up e ≤ c * down e → Sized c (fin s m e)
 
-pub is-sized : (M j : ℕ) (x : Float) → le (fin true M (pos j)) x ≡ true → le x (fin false M (pos j)) ≡ true → Sized (M * 2 ^ j) x
+pub is-sized : (M j : ℕ) (x : Float) → le (fin true M (pos j)) x ≡ true → le x (fin false M (pos j)) ≡ true
+    → Sized (M * 2 ^ j) x
 unfolding le lt eq
 is-sized M j nan g h = no h
 is-sized M j (inf true) g h = no g
@@ -115,7 +118,8 @@ pitch-ratio _ (sized true m e h) =
 
 -- what is known of a pitch: m * 2 ^ e, from 8 to 248
 pub data Pitch : Float → Type 0 where
-  pitch : (m : ℕ) (e : ℤ) → T (fits binary32 (fin false m e)) → 8 * down e ≤ m * up e → m * up e ≤ 248 * down e → Pitch (fin false m e)
+  pitch : (m : ℕ) (e : ℤ) → T (fits binary32 (fin false m e)) → 8 * down e ≤ m * up e → m * up e ≤ 248 * down e
+      → Pitch (fin false m e)
 
 at-least-8 : (m : ℕ) (e : ℤ) → le (fin false 1 (pos 3)) (fin false m e) ≡ true → 8 * down e ≤ m * up e
 unfolding le lt eq
@@ -133,7 +137,8 @@ is-pitch _ (ratio n d p l h) =
     (upto-whole 31 3 y (round-plus n d) (is-true _ (round-mono binary32 n d 248 1 p (omega arith) (omega arith))))
 
 -- its whole part is an index of 256 entries
-pub whole-of : (m : ℕ) (e : ℤ) → m * up e ≤ 248 * down e → (m * up e / down e ≤ 248) × (toUnsigned 64 (fin false m e) ≡ m * up e / down e)
+pub whole-of : (m : ℕ) (e : ℤ) → m * up e ≤ 248 * down e
+    → (m * up e / down e ≤ 248) × (toUnsigned 64 (fin false m e) ≡ m * up e / down e)
 unfolding toUnsigned
 whole-of m e h =
     let q : m * up e / down e < 249 = div-lt-iff-lt-mul (down-pos e) .1 (let p = down-pos e in omega arith) in
@@ -154,7 +159,8 @@ coarse m (negsuc k) h l = go (leb 21 (suc k)) refl
     go false t = let a = leb-false 21 (suc k) t in let b : suc k ≤ 20 = omega arith in pow-mono b
 
 -- y has R = U - n * E of E parts past n, with F as a common factor
-past : (U E F n Q : ℕ) → Q * 1 ≡ n * F → n * E ≤ U → U - n * E < E → E ≤ 2 ^ 20 → (Q * E ≤ U * F) × ((U * F - Q * E) * 2 ^ 20 ≤ 1048575 * (E * F))
+past : (U E F n Q : ℕ) → Q * 1 ≡ n * F → n * E ≤ U → U - n * E < E → E ≤ 2 ^ 20
+    → (Q * E ≤ U * F) × ((U * F - Q * E) * 2 ^ 20 ≤ 1048575 * (E * F))
 past U E F n Q v l r t =
     let R : ℕ = U - n * E in
     let u : U ≡ n * E + R = omega arith in
@@ -168,8 +174,10 @@ past U E F n Q v l r t =
     (omega (arith, a, b), omega (arith, a, b, x, y, z))
 
 -- z is the whole number n: y - z is a rounding of what y has past n
-part-ratio : (m : ℕ) (e : ℤ) (z : Float) (n : ℕ) → HasValue z false n 1 → n * down e ≤ m * up e → m * up e - n * down e < down e → down e ≤ 2 ^ 20
-    → (c : ℕ) × (d : ℕ) × (0 < d) × (c * 2 ^ 20 ≤ 1048575 * d) × (sub binary32 (fin false m e) z ≡ round binary32 false c d)
+part-ratio : (m : ℕ) (e : ℤ) (z : Float) (n : ℕ) → HasValue z false n 1 → n * down e ≤ m * up e
+    → m * up e - n * down e < down e → down e ≤ 2 ^ 20
+    → (c : ℕ) × (d : ℕ) × (0 < d) × (c * 2 ^ 20 ≤ 1048575 * d)
+    × (sub binary32 (fin false m e) z ≡ round binary32 false c d)
 unfolding sub add neg sum
 part-ratio m e nan n v l r t = absurd v
 part-ratio m e (inf s) n v l r t = absurd v
@@ -194,13 +202,15 @@ under _ (upto m e h) =
     let q : m * up e / down e < 256 = div-lt-iff-lt-mul (down-pos e) .1 (let p = down-pos e in omega arith) in
     omega arith
 
-part-upto : (y : Float) (c d : ℕ) → 0 < d → c * 2 ^ 20 ≤ 1048575 * d → y ≡ round binary32 false c d → Upto 1048575 (2 ^ 20) y
+part-upto : (y : Float) (c d : ℕ) → 0 < d → c * 2 ^ 20 ≤ 1048575 * d → y ≡ round binary32 false c d
+    → Upto 1048575 (2 ^ 20) y
 unfolding round
 part-upto y c d p h e =
     subst (Upto 1048575 (2 ^ 20)) (sym e)
     (upto-part 1048575 19 (round binary32 false c d) (round-plus c d) (is-true _ (round-mono binary32 c d 1048575 (2 ^ 20) p (omega arith) h)))
 
-fine-upto : (y : Float) (c d : ℕ) → 0 < d → c * 2 ^ 12 ≤ 1048575 * d → y ≡ round binary32 false c d → Upto 1048575 (2 ^ 12) y
+fine-upto : (y : Float) (c d : ℕ) → 0 < d → c * 2 ^ 12 ≤ 1048575 * d → y ≡ round binary32 false c d
+    → Upto 1048575 (2 ^ 12) y
 unfolding round
 fine-upto y c d p h e =
     subst (Upto 1048575 (2 ^ 12)) (sym e)
@@ -229,7 +239,8 @@ unfolding within decimal minusDecimal
 is-pitch-of s h =
     let a = le (fin true 15 (pos 3)) s in
     let b = le s (fin false 15 (pos 3)) in
-    is-pitch (s ⊕ fin false 1 (pos 7)) (pitch-ratio s (is-sized 15 3 s (is-true a (and-l a b h)) (is-true b (and-r a b h))))
+    is-pitch (s ⊕ fin false 1 (pos 7))
+    (pitch-ratio s (is-sized 15 3 s (is-true a (and-l a b h)) (is-true b (and-r a b h))))
 
 module _ (s : Float) (w : ℕ) (ew : w ≡ toUnsigned 64 (s ⊕ decimal 128 0)) where
   pub whole-index : T (within 120 s) → w < 256

@@ -1,5 +1,5 @@
--- A loop of two floats that takes one turn at most: while t holds of the first, it becomes f of itself, and the second g of itself.
--- Both loops of the ratio are such. Assumes nothing.
+-- A loop of two floats that takes one turn at most: while t holds of the first, it becomes f of itself, and the second
+-- g of itself. Both loops of the ratio are such. Assumes nothing.
 use mathlib.Core.Path.{_≡_, sym, _∙_}
 use mathlib.Core.Bool.{Bool, true, false, cond}
 use Prim.Native.Nat.{ℕ, _<_}
@@ -27,6 +27,8 @@ module _ (t : Float → Bool) (f g : Float → Float) (x z : Float) (once : t x 
   fewer (turned e) h = on (sym h ∙ once e)
 
   pub ends : {s w : Float} → Turned t f g x z s w → t s ≡ false
-      → _≡_ {A = Shifted} (record { semitones = s; scale = w }) (cond (t x) (record { semitones = f x; scale = g z }) (record { semitones = x; scale = z }))
+      → _≡_ {A =
+      Shifted} (record { semitones = s; scale = w }) (cond (t x) (record { semitones = f x; scale = g z })
+      (record { semitones = x; scale = z }))
   ends begun h = simp h
   ends (turned e) h = simp e

@@ -18,7 +18,8 @@ use Rattle.numbers.proofs.Casts.{or-i, ge-or}
 use Rattle.numbers.specs.F32.{_⊕_, _⊖_, _⊗_, _⊘_, decimal, minusDecimal}
 use Rattle.units.specs.declared.Shifted.{Shifted}
 use Rattle.units.specs.Ratio.{within, lowered, raised, ratioIn, ratioOf}
-use Rattle.units.proofs.Bounds.{Plus, p-inf, p-fin, round-plus, round-neg, Upto, upto, upto-whole, Sized, sized, is-sized}
+use Rattle.units.proofs.Bounds.{Plus, p-inf, p-fin, round-plus, round-neg, Upto, upto, upto-whole, Sized, sized}
+use Rattle.units.proofs.Bounds.{is-sized}
 
 -- ---- 120 less, 120 more, or neither, is from -120 to 120
 
@@ -36,7 +37,8 @@ minus-le : (M j : ℕ) (y : Float) → 0 < M → Plus y → T (le (fin true M (p
 unfolding le lt eq
 minus-le M j _ p p-inf = tt
 minus-le M j _ p (p-fin m e) =
-    or-i (ltb 0 (M * 2 ^ j * down e + m * up e * 1)) (eqb (M * 2 ^ j * down e) (m * up e * 1) && eqb (M * 2 ^ j * down e) 0)
+    or-i (ltb 0 (M * 2 ^ j * down e + m * up e * 1))
+    (eqb (M * 2 ^ j * down e) (m * up e * 1) && eqb (M * 2 ^ j * down e) 0)
     (lt→ltb 0 (M * 2 ^ j * down e + m * up e * 1) (let q = scaled M j e p in omega arith))
 
 neg-le : (M j : ℕ) (y : Float) → 0 < M → Plus y → T (le (neg y) (fin false M (pos j)))
@@ -51,7 +53,8 @@ unfolding le lt eq neg
 minus-le-neg M j _ (upto m e h) = ge-or (M * 2 ^ j * down e) (m * up e * 1) h
 
 less : (x : Float) → lt (fin false 15 (pos 3)) x ≡ true → le x (fin false 15 (pos 4)) ≡ true
-    → T (le (fin true 15 (pos 3)) (sub binary32 x (fin false 15 (pos 3)))) × T (le (sub binary32 x (fin false 15 (pos 3))) (fin false 15 (pos 3)))
+    → T (le (fin true 15 (pos 3)) (sub binary32 x (fin false 15 (pos 3))))
+    × T (le (sub binary32 x (fin false 15 (pos 3))) (fin false 15 (pos 3)))
 unfolding lt le eq sub add neg sum round
 less nan g h = no g
 less (inf true) g h = no g
@@ -68,7 +71,8 @@ less (fin false m e) g h =
     )
 
 more : (x : Float) → lt x (fin true 15 (pos 3)) ≡ true → le (fin true 15 (pos 4)) x ≡ true
-    → T (le (fin true 15 (pos 3)) (add binary32 x (fin false 15 (pos 3)))) × T (le (add binary32 x (fin false 15 (pos 3))) (fin false 15 (pos 3)))
+    → T (le (fin true 15 (pos 3)) (add binary32 x (fin false 15 (pos 3))))
+    × T (le (add binary32 x (fin false 15 (pos 3))) (fin false 15 (pos 3)))
 unfolding lt le eq add neg sum round
 more nan g h = no g
 more (inf true) g h = no h
@@ -86,7 +90,8 @@ more (fin true m e) g h =
       neg-le 15 3 y (omega arith) (round-plus n d),
     )
 
-between : (x : Float) → le (fin true 15 (pos 4)) x ≡ true → le x (fin false 15 (pos 4)) ≡ true → lt (fin false 15 (pos 3)) x ≡ false → lt x (fin true 15 (pos 3)) ≡ false
+between : (x : Float) → le (fin true 15 (pos 4)) x ≡ true → le x (fin false 15 (pos 4)) ≡ true
+    → lt (fin false 15 (pos 3)) x ≡ false → lt x (fin true 15 (pos 3)) ≡ false
     → T (le (fin true 15 (pos 3)) x) × T (le x (fin false 15 (pos 3)))
 unfolding lt le eq neg
 between nan a b g h = no a
@@ -147,23 +152,28 @@ more-within : (x : Float) → T (within 240 x) → lt x (minusDecimal 120 0) ≡
 unfolding decimal minusDecimal
 more-within x h g = let p = more x g (at-least 240 x h) in is-within 120 (x ⊕ decimal 120 0) (p .0) (p .1)
 
-between-within : (x : Float) → T (within 240 x) → lt (decimal 120 0) x ≡ false → lt x (minusDecimal 120 0) ≡ false → T (within 120 x)
+between-within : (x : Float) → T (within 240 x) → lt (decimal 120 0) x ≡ false → lt x (minusDecimal 120 0) ≡ false
+    → T (within 120 x)
 unfolding decimal minusDecimal
 between-within x h g l = let p = between x (at-least 240 x h) (at-most 240 x h) g l in is-within 120 x (p .0) (p .1)
 
 -- neither loop takes a second turn
-pub lowered-once : (x : Float) → T (within 240 x) → lt (decimal 120 0) x ≡ true → lt (decimal 120 0) (x ⊖ decimal 120 0) ≡ false
+pub lowered-once : (x : Float) → T (within 240 x) → lt (decimal 120 0) x ≡ true
+    → lt (decimal 120 0) (x ⊖ decimal 120 0) ≡ false
 lowered-once x h g = le-not-lt _ _ (at-most 120 _ (less-within x h g))
 
-pub raised-once : (x : Float) → T (within 240 x) → lt x (minusDecimal 120 0) ≡ true → lt (x ⊕ decimal 120 0) (minusDecimal 120 0) ≡ false
+pub raised-once : (x : Float) → T (within 240 x) → lt x (minusDecimal 120 0) ≡ true
+    → lt (x ⊕ decimal 120 0) (minusDecimal 120 0) ≡ false
 raised-once x h g = le-not-lt _ _ (at-least 120 _ (more-within x h g))
 
 -- ---- what the loops hand on
 
 wide : (x : Float) → Sized 120 x → T (le (fin true 15 (pos 4)) x) × T (le x (fin false 15 (pos 4)))
 unfolding le lt eq neg
-wide _ (sized false m e h) = (minus-le 15 4 (fin false m e) (omega arith) (p-fin m e), le-or (m * up e * 1) (240 * down e) (omega arith))
-wide _ (sized true m e h) = (ge-or (240 * down e) (m * up e * 1) (omega arith), neg-le 15 4 (fin false m e) (omega arith) (p-fin m e))
+wide _ (sized false m e h) =
+    (minus-le 15 4 (fin false m e) (omega arith) (p-fin m e), le-or (m * up e * 1) (240 * down e) (omega arith))
+wide _ (sized true m e h) =
+    (ge-or (240 * down e) (m * up e * 1) (omega arith), neg-le 15 4 (fin false m e) (omega arith) (p-fin m e))
 
 wider : (x : Float) → T (within 120 x) → T (within 240 x)
 unfolding decimal minusDecimal
@@ -174,11 +184,14 @@ unfolding lowered
 lowered-within x h = go (lt (decimal 120 0) x) refl
   where
     go : (b : Bool) → lt (decimal 120 0) x ≡ b
-        → T (within 240 ((cond {A = Shifted} b (record { semitones = x ⊖ decimal 120 0; scale = decimal 1 0 ⊗ decimal 1024 0 }) (record { semitones = x; scale = decimal 1 0 })) .semitones))
+        → T (within 240 ((cond {A =
+        Shifted} b (record { semitones = x ⊖ decimal 120 0; scale = decimal 1 0 ⊗ decimal 1024 0 }) (record
+        { semitones = x; scale = decimal 1 0 })) .semitones))
     go true g = wider (x ⊖ decimal 120 0) (less-within x h g)
     go false g = h
 
-pub raised-within : (x : Shifted) → T (within 240 (x .semitones)) → lt (decimal 120 0) (x .semitones) ≡ false → T (within 120 (raised x .semitones))
+pub raised-within : (x : Shifted) → T (within 240 (x .semitones)) → lt (decimal 120 0) (x .semitones) ≡ false
+    → T (within 120 (raised x .semitones))
 unfolding raised
 raised-within x h a = go (lt (x .semitones) (minusDecimal 120 0)) refl
   where
@@ -192,7 +205,9 @@ unfolding lowered
 lowered-below x h = go (lt (decimal 120 0) x) refl
   where
     go : (b : Bool) → lt (decimal 120 0) x ≡ b
-        → lt (decimal 120 0) ((cond {A = Shifted} b (record { semitones = x ⊖ decimal 120 0; scale = decimal 1 0 ⊗ decimal 1024 0 }) (record { semitones = x; scale = decimal 1 0 })) .semitones) ≡ false
+        → lt (decimal 120 0) ((cond {A =
+        Shifted} b (record { semitones = x ⊖ decimal 120 0; scale = decimal 1 0 ⊗ decimal 1024 0 }) (record
+        { semitones = x; scale = decimal 1 0 })) .semitones) ≡ false
     go true g = lowered-once x h g
     go false g = g
 
@@ -221,19 +236,23 @@ over1024 s = s ⊗ (decimal 1 0 ⊘ decimal 1024 0)
 
 -- ---- the whole ratio, from what its calls ensure
 
-pub inside : (high low : List Float) (s : Float) {x y : Shifted} {q : Float} → T (within 240 s) → x ≡ lowered s → y ≡ raised x → q ≡ ratioIn high low (y .semitones)
+pub inside : (high low : List Float) (s : Float) {x y : Shifted} {q : Float} → T (within 240 s) → x ≡ lowered s
+    → y ≡ raised x → q ≡ ratioIn high low (y .semitones)
     → y .scale ⊗ q ≡ ratioOf high low s
 unfolding ratioOf
 inside high low s h ex ey eq = simp (is-true (within 240 s) h, eq, ey, ex)
 
-pub outside : (high low : List Float) (s : Float) → le (minusDecimal 240 0) s ≡ true → le s (decimal 240 0) ≡ false → decimal 1 0 ≡ ratioOf high low s
+pub outside : (high low : List Float) (s : Float) → le (minusDecimal 240 0) s ≡ true → le s (decimal 240 0) ≡ false
+    → decimal 1 0 ≡ ratioOf high low s
 unfolding ratioOf within
 outside high low s l h = simp (l, h)
 
-pub far-below : (high low : List Float) (s : Float) → le (minusDecimal 240 0) s ≡ false → decimal 1 0 ≡ ratioOf high low s
+pub far-below : (high low : List Float) (s : Float) → le (minusDecimal 240 0) s ≡ false
+    → decimal 1 0 ≡ ratioOf high low s
 unfolding ratioOf within
 far-below high low s l = simp l
 
 -- with tables that were made on the way
-pub made : (s : Float) {h high l low : List Float} {r : Float} → h ≡ high → l ≡ low → r ≡ ratioOf h l s → r ≡ ratioOf high low s
+pub made : (s : Float) {h high l low : List Float} {r : Float} → h ≡ high → l ≡ low → r ≡ ratioOf h l s
+    → r ≡ ratioOf high low s
 made s eh el er = simp (er, eh, el)

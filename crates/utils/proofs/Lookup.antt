@@ -25,7 +25,8 @@ module _ (table : List Float) (place : Float) (i : ℕ) (ei : i ≡ toUnsigned 6
   between w ew h = simp (ew, sym ei, lt-ltb (i + 1) (length table) h)
 
 -- a call is handed the signed number m, which is n read back from its bits
-pub wrapped : (table : List Float) (index size : Float) {w r : Float} {n m : ℤ} → n ≡ toSigned 31 index → m ≡ n → w ≡ ofInt binary32 m
+pub wrapped : (table : List Float) (index size : Float) {w r : Float} {n m : ℤ} → n ≡ toSigned 31 index → m ≡ n
+    → w ≡ ofInt binary32 m
     → r ≡ interpolated table (index ⊖ w) size → r ≡ interpolatedWrap table index size
 unfolding interpolatedWrap
 wrapped table index size en em ew er = simp (er, ew, em, en)

@@ -18,19 +18,23 @@ cut-le m d p = div-le-of-le-mul d (rw mul-one (let q : m * 1 ≤ m * d = mul-le-
 
 -- m * 2 ^ k in units of the smallest f32
 scaled : (m k : ℕ) → m * 2 ^ k * 2 ^ 149 ≡ m * 2 ^ (k + 149) * 1
-scaled m k = mul-assoc m (2 ^ k) (2 ^ 149) ∙ ap (λ (x : ℕ). m * x) (sym (pow-add 2 k 149)) ∙ sym (mul-one (m * 2 ^ (k + 149)))
+scaled m k =
+    mul-assoc m (2 ^ k) (2 ^ 149) ∙ ap (λ (x : ℕ). m * x) (sym (pow-add 2 k 149)) ∙ sym (mul-one (m * 2 ^ (k + 149)))
 
 below : (m k : ℕ) → m * 2 ^ k < 2 ^ 64 → m * 2 ^ (k + 149) < 2 ^ 277
 below m k h =
     let p : 2 ^ 64 ≤ 2 ^ 128 = pow-mono {i = 64} {j = 128} (omega arith) in
-    subst (λ (x : ℕ). x < 2 ^ 277) (scaled m k ∙ mul-one (m * 2 ^ (k + 149))) (mul-lt-mul-of-pos-right (lt-of-lt-of-le h p) (pow-pos 149))
+    subst (λ (x : ℕ). x < 2 ^ 277) (scaled m k ∙ mul-one (m * 2 ^ (k + 149)))
+    (mul-lt-mul-of-pos-right (lt-of-lt-of-le h p) (pow-pos 149))
 
 -- a whole number of at most 24 digits, times a power of two, is an f32
-pub whole-exact : (m k : ℕ) → m < 2 ^ 24 → m * 2 ^ k < 2 ^ 64 → HasValue (ofInt binary32 (pos (m * 2 ^ k))) false (m * 2 ^ k) 1
+pub whole-exact : (m k : ℕ) → m < 2 ^ 24 → m * 2 ^ k < 2 ^ 64
+    → HasValue (ofInt binary32 (pos (m * 2 ^ k))) false (m * 2 ^ k) 1
 unfolding ofInt
 whole-exact m k a h = round-exact binary32 false (m * 2 ^ k) 1 m (k + 149) (omega arith) a (below m k h) (scaled m k)
 
-pub whole-back : (x : Float) → T (fits binary32 x) → 2 ^ 24 ≤ toUnsigned 64 x → toUnsigned 64 x < 2 ^ 64 - 1 → x ≡ ofInt binary32 (pos (toUnsigned 64 x))
+pub whole-back : (x : Float) → T (fits binary32 x) → 2 ^ 24 ≤ toUnsigned 64 x → toUnsigned 64 x < 2 ^ 64 - 1
+    → x ≡ ofInt binary32 (pos (toUnsigned 64 x))
 unfolding toUnsigned ofInt
 whole-back nan f l h = let q : ⊥ = omega arith in absurd q
 whole-back (inf true) f l h = let q : ⊥ = omega arith in absurd q
@@ -48,5 +52,6 @@ whole-back (fin false m (pos k)) f l h =
     rw e
     (whole-unique binary32 (fin false m (pos k)) (ofInt binary32 (pos n)) false n f (ofInt-fits binary32 (pos n)) (refl, refl) (whole-exact m k a (omega arith)))
 
-pub whole-back-at : (x : Float) (i : ℕ) → T (fits binary32 x) → i ≡ toUnsigned 64 x → 2 ^ 24 ≤ i → i < 2 ^ 64 - 1 → x ≡ ofInt binary32 (pos i)
+pub whole-back-at : (x : Float) (i : ℕ) → T (fits binary32 x) → i ≡ toUnsigned 64 x → 2 ^ 24 ≤ i → i < 2 ^ 64 - 1
+    → x ≡ ofInt binary32 (pos i)
 whole-back-at x i f e l h = rw e (whole-back x f (rw e at l) (rw e at h))

@@ -34,7 +34,8 @@ is-adding-requires c κs = search needs
 returns : tie.Need-returns
 returns c =
     let start = c .before .before .before .before .before in
-    call-at _ _ _ (start .pre .0) _ (start .pre .1) (start .pre .2) _ _ _ (c .before .before .source-of .ensures) (c .before .destination-of .ensures) (c .is-adding .ensures)
+    call-at _ _ _ (start .pre .0) _ (start .pre .1) (start .pre .2) _ _ _ (c .before .before .source-of .ensures)
+    (c .before .destination-of .ensures) (c .is-adding .ensures)
 
 pub call-of-spec : {M : Type 1} → statement M
 call-of-spec =

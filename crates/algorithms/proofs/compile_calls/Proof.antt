@@ -1,4 +1,5 @@
--- `algorithms::compile_calls` meets its contract. The loop's invariant: the walk from here on gives the whole answer, and the flags say which buffers are ready. Assumes nothing.
+-- `algorithms::compile_calls` meets its contract. The loop's invariant: the walk from here on gives the whole answer,
+-- and the flags say which buffers are ready. Assumes nothing.
 use mathlib.Core.Path.{_≡_, refl, sym, _∙_}
 use mathlib.Core.Bool.{Bool}
 use mathlib.Core.List.{List}
@@ -9,7 +10,8 @@ use Rattle.algorithms.specs.Chain.{rowFrom, Within}
 use Rattle.algorithms.specs.Plan.{noPlan, planFrom, ready, unready, extended}
 use Rattle.algorithms.specs.declared.Call.{Call}
 use Rattle.algorithms.proofs.Lengths.{rendered-at}
-use Rattle.algorithms.proofs.Steps.{Flags, flags-start, lacking-at, unready-at, step-at, done-at, call-input, call-output, flags-agree, flags-more}
+use Rattle.algorithms.proofs.Steps.{Flags, flags-start, lacking-at, unready-at, step-at, done-at, call-input}
+use Rattle.algorithms.proofs.Steps.{call-output, flags-agree, flags-more}
 use borrow.Author.Needs.{needs}
 use native.Mathlib.Omega.{arith}
 use Rattle.algorithms.proofs.compile_calls.Statement.{statement}
@@ -22,10 +24,15 @@ record Walked (operators : ℕ) (row : List ℕ) (flags : List Bool) (calls : Li
   fewer : count ≤ first
   past : first ≤ operators
   shown : Flags flags calls count
-  rest : planFrom operators 0 first (record { count = count; calls = calls }) (rowFrom operators first row) ≡ planFrom operators 0 0 noPlan (take operators row)
+  rest : planFrom operators 0 first (record {
+    count =
+        count;
+    calls = calls;
+  }) (rowFrom operators first row) ≡ planFrom operators 0 0 noPlan (take operators row)
 
 abbrev Inv-loop : tie.InvT-loop
-Inv-loop operators row flags₀ calls₀ count₀ first₀ flags calls count first = Walked operators row flags calls count first
+Inv-loop operators row flags₀ calls₀ count₀ first₀ flags calls count first =
+    Walked operators row flags calls count first
 
 abbrev μ-loop : tie.MeasureT-loop
 μ-loop operators row flags₀ calls₀ count₀ first₀ flags calls count first = operators - first
@@ -70,13 +77,16 @@ refused-requires c κs = search needs
 returns : tie.Need-returns Inv-loop μ-loop
 returns c =
     let at = c .before .before .before in
-    c .refused .ensures ∙ lacking-at _ _ _ (within at) (record { count = at .before .loop .count; calls = at .before .loop .calls }) _ (c .before .before .rendered-length .ensures) (c .before .if1 .taken) ∙ at .before .loop .inv .rest
+    c .refused .ensures
+    ∙ lacking-at _ _ _ (within at) (record { count = at .before .loop .count; calls = at .before .loop .calls }) _
+    (c .before .before .rendered-length .ensures) (c .before .if1 .taken) ∙ at .before .loop .inv .rest
 
 call-of-requires : tie.Need-call-of-requires Inv-loop μ-loop
 call-of-requires c κs = (within (c .before .before), omega arith, rendered-at _ _ _ (within (c .before .before)) _ (c .before .rendered-length .ensures))
 
 is-unready-requires : tie.Need-is-unready-requires Inv-loop μ-loop
-is-unready-requires c κs = (call-input _ _ _ _ (c .before .call-of .ensures), call-output _ _ _ _ (c .before .call-of .ensures))
+is-unready-requires c κs =
+    (call-input _ _ _ _ (c .before .call-of .ensures), call-output _ _ _ _ (c .before .call-of .ensures))
 
 cast-refused-2 : tie.Need-cast-refused-2 Inv-loop μ-loop
 cast-refused-2 c = omega arith
@@ -150,7 +160,8 @@ cast-t21 c = omega arith
 returns-3 : tie.Need-returns-3 Inv-loop μ-loop
 returns-3 c =
     let start = c .before .before .before in
-    done-at _ _ _ (record { count = c .before .loop .count; calls = c .before .loop .calls }) (start .pre .0) (start .pre .1) (c .loop-test .left) ∙ c .before .loop .inv .rest
+    done-at _ _ _ (record { count = c .before .loop .count; calls = c .before .loop .calls }) (start .pre .0)
+    (start .pre .1) (c .loop-test .left) ∙ c .before .loop .inv .rest
 
 pub compile-calls-spec : {M : Type 1} → statement M
 compile-calls-spec =

@@ -10,7 +10,8 @@ is-counted-requires : tie.Need-is-counted-requires
 is-counted-requires c κs = search needs
 
 compile-calls-requires : tie.Need-compile-calls-requires
-compile-calls-requires c κs = (search needs, counted-few _ (sym (c .before .before .is-counted .ensures) ∙ c .before .if1 .taken))
+compile-calls-requires c κs =
+    (search needs, counted-few _ (sym (c .before .before .is-counted .ensures) ∙ c .before .if1 .taken))
 
 returns : tie.Need-returns
 unfolding planned

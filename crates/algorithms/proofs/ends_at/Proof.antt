@@ -12,7 +12,9 @@ use Rattle.algorithms.proofs.ends_at.Statement.{statement}
 use Rattle.algorithms.proofs.ends_at.Tie as tie
 
 abbrev Inv-loop : tie.InvT-loop
-Inv-loop k plan none i₀ i = (k ≤ i) × (i ≤ 6) × (sameCalls (drop i (plan .calls)) (drop i (firstCalls k plan .calls)) ≡ samePlan plan (firstCalls k plan))
+Inv-loop k plan none i₀ i =
+    (k ≤ i) × (i ≤ 6)
+    × (sameCalls (drop i (plan .calls)) (drop i (firstCalls k plan .calls)) ≡ samePlan plan (firstCalls k plan))
 
 abbrev μ-loop : tie.MeasureT-loop
 μ-loop k plan none i₀ i = 6 - i

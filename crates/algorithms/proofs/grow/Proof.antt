@@ -1,4 +1,5 @@
--- `algorithms::grow` meets its contract. The loop's invariant: the chain from `first` is as long as what was passed and the chain from `last` on. Assumes nothing.
+-- `algorithms::grow` meets its contract. The loop's invariant: the chain from `first` is as long as what was passed
+-- and the chain from `last` on. Assumes nothing.
 use Prim.Native.Nat.{_≤_, _<_, _+_, _-_}
 use mathlib.Core.Path.{_≡_, sym, _∙_}
 use borrow.Author.Tests.{not-true, not-false}
@@ -11,7 +12,9 @@ use Rattle.algorithms.proofs.grow.Statement.{statement}
 use Rattle.algorithms.proofs.grow.Tie as tie
 
 abbrev Inv-loop : tie.InvT-loop
-Inv-loop operators row first last₀ last = (first ≤ last) × (last < operators) × (grown (rowFrom operators first row) ≡ (last - first) + grown (rowFrom operators last row))
+Inv-loop operators row first last₀ last =
+    (first ≤ last) × (last < operators)
+    × (grown (rowFrom operators first row) ≡ (last - first) + grown (rowFrom operators last row))
 
 abbrev μ-loop : tie.MeasureT-loop
 μ-loop operators row first last₀ last = operators - last

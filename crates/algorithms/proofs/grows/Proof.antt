@@ -11,7 +11,8 @@ source-of-requires : tie.Need-source-of-requires
 source-of-requires c κs = search needs
 
 returns : tie.Need-returns
-returns c = grows-unmet _ _ _ _ (c .before .before .destination-of .ensures) (c .before .source-of .ensures) (c .if1 .taken)
+returns c =
+    grows-unmet _ _ _ _ (c .before .before .destination-of .ensures) (c .before .source-of .ensures) (c .if1 .taken)
 
 is-adding-requires : tie.Need-is-adding-requires
 is-adding-requires c κs = search needs

@@ -1,5 +1,5 @@
--- `algorithms::is_plan_of` meets its contract. The loop's invariant: the walk from here on, with the plan's first k calls behind it, gives the whole answer, and the flags say which buffers are ready.
--- Assumes nothing.
+-- `algorithms::is_plan_of` meets its contract. The loop's invariant: the walk from here on, with the plan's first k
+-- calls behind it, gives the whole answer, and the flags say which buffers are ready. Assumes nothing.
 use mathlib.Core.Path.{_≡_, refl, sym, _∙_}
 use mathlib.Core.Bool.{Bool}
 use mathlib.Core.List.{List}
@@ -11,8 +11,10 @@ use Rattle.algorithms.specs.Plan.{planFrom, planned, ready, unready, ext
 use Rattle.algorithms.specs.declared.Call.{Call}
 use Rattle.algorithms.specs.declared.Plan.{Plan}
 use Rattle.algorithms.proofs.Lengths.{rendered-at}
-use Rattle.algorithms.proofs.Steps.{Flags, flags-start, lacking-at, unready-at, step-at, done-at, counted-few, call-input, call-output, flags-agree, flags-more}
-use Rattle.algorithms.proofs.Together.{first-count, first-slots, first-next, uncounted, no-plan-of, whole-plan, other-call}
+use Rattle.algorithms.proofs.Steps.{Flags, flags-start, lacking-at, unready-at, step-at, done-at, counted-few}
+use Rattle.algorithms.proofs.Steps.{call-input, call-output, flags-agree, flags-more}
+use Rattle.algorithms.proofs.Together.{first-count, first-slots, first-next, uncounted, no-plan-of, whole-plan}
+use Rattle.algorithms.proofs.Together.{other-call}
 use borrow.Author.Needs.{needs}
 use native.Mathlib.Omega.{arith}
 use Rattle.algorithms.proofs.is_plan_of.Statement.{statement}
@@ -54,14 +56,17 @@ tested : (c : tie.After-is-unready Inv-loop μ-loop)
 tested c =
     let e = c .before .before .call-of .ensures in
     let at = c .before .before .before .before .before .before .before in
-    c .is-unready .ensures ∙ flags-agree (at .before .loop .ready) (so-far at .calls) (so-far at .count) _ (at .before .loop .inv .shown) (call-input _ _ _ _ e) (call-output _ _ _ _ e)
+    c .is-unready .ensures
+    ∙ flags-agree (at .before .loop .ready) (so-far at .calls) (so-far at .count) _ (at .before .loop .inv .shown)
+    (call-input _ _ _ _ e) (call-output _ _ _ _ e)
 
 -- behind the call d of n operators the walk goes on
 abbrev Goes-on : tie.In-loop Inv-loop μ-loop → ℕ → Call → Type 0
 Goes-on c n d =
     let start = c .before .before .before .before in
     let next = c .before .loop .first + n in
-    planFrom (start .args .operators) 0 next (extended (so-far c) d) (rowFrom (start .args .operators) next (start .args .t2)) ≡ planned (start .args .operators) (start .args .t2)
+    planFrom (start .args .operators) 0 next (extended (so-far c) d)
+    (rowFrom (start .args .operators) next (start .args .t2)) ≡ planned (start .args .operators) (start .args .t2)
 
 stepped : (c : tie.Else3 Inv-loop μ-loop) → Goes-on (c .before .before .before .before .before .before .before .before) (c .before .before .before .before .before .before .rendered-length .result) (c .before .before .before .call-of .result)
 stepped c =
@@ -69,7 +74,8 @@ stepped c =
     let at-if2 = at-call-of .before .before in
     let at-rendered-length = at-if2 .before in
     let at = c .before .before .before .before .before .before .before .before in
-    step-at _ _ _ (within at) (so-far at) _ (at-rendered-length .rendered-length .ensures) _ (at-call-of .call-of .ensures)
+    step-at _ _ _ (within at) (so-far at) _ (at-rendered-length .rendered-length .ensures) _
+    (at-call-of .call-of .ensures)
     (at-if2 .if2 .left) _ (tested (c .before)) (c .if3 .left) ∙ at .before .loop .inv .rest
 
 is-counted-requires : tie.Need-is-counted-requires Inv-loop μ-loop
@@ -105,7 +111,8 @@ call-of-requires c κs =
     (within (far), omega arith, rendered-at _ _ _ (within (far)) _ (c .before .before .rendered-length .ensures))
 
 is-unready-requires : tie.Need-is-unready-requires Inv-loop μ-loop
-is-unready-requires c κs = (call-input _ _ _ _ (c .before .call-of .ensures), call-output _ _ _ _ (c .before .call-of .ensures))
+is-unready-requires c κs =
+    (call-input _ _ _ _ (c .before .call-of .ensures), call-output _ _ _ _ (c .before .call-of .ensures))
 
 returns-3 : tie.Need-returns-3 Inv-loop μ-loop
 returns-3 c =
@@ -184,7 +191,8 @@ returns-5 : tie.Need-returns-5 Inv-loop μ-loop
 returns-5 c =
     let at = c .before .before in
     let start = at .before .before .before in
-    c .ends-at .ensures ∙ whole-plan _ _ _ (firstCalls (at .loop .k) (start .args .t3)) (done-at _ _ _ _ (long start) (at .loop .inv .most) (c .before .loop-test .left) ∙ at .loop .inv .rest)
+    c .ends-at .ensures ∙ whole-plan _ _ _ (firstCalls (at .loop .k) (start .args .t3))
+    (done-at _ _ _ _ (long start) (at .loop .inv .most) (c .before .loop-test .left) ∙ at .loop .inv .rest)
 
 pub is-plan-of-spec : {M : Type 1} → statement M
 is-plan-of-spec =

@@ -13,7 +13,8 @@ use Rattle.bank.proofs.tally.Statement.{statement}
 use Rattle.bank.proofs.tally.Tie as tie
 
 abbrev Inv-loop : tie.InvT-loop
-Inv-loop s sum₀ largest₀ i₀ sum largest i = (i ≤ length s) × (sum ≡ total (take i s) % 128) × (largest ≡ largestOf (take i s))
+Inv-loop s sum₀ largest₀ i₀ sum largest i =
+    (i ≤ length s) × (sum ≡ total (take i s) % 128) × (largest ≡ largestOf (take i s))
 
 abbrev μ-loop : tie.MeasureT-loop
 μ-loop s sum₀ largest₀ i₀ sum largest i = length s - i

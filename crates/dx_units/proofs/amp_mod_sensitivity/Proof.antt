@@ -14,7 +14,8 @@ amp-mod-sensitivity-requires c κs = search needs
 
 returns-2 : tie.Need-returns-2
 unfolding ampModSensitivityAnswer
-returns-2 c = field-fits (c .before .before .args .sensitivity) 3 (c .before .if1 .left) (c .amp-mod-sensitivity .ensures)
+returns-2 c =
+    field-fits (c .before .before .args .sensitivity) 3 (c .before .if1 .left) (c .amp-mod-sensitivity .ensures)
 
 pub amp-mod-sensitivity-spec : {M : Type 1} → statement M
 amp-mod-sensitivity-spec = tie.close (tie.spec returns amp-mod-sensitivity-requires returns-2)

@@ -14,7 +14,8 @@ operator-envelope-increment-requires c κs = search needs
 
 returns-2 : tie.Need-returns-2
 unfolding operatorEnvelopeIncrementAnswer
-returns-2 c = field-fits (c .before .before .args .rate) 99 (c .before .if1 .left) (c .operator-envelope-increment .ensures)
+returns-2 c =
+    field-fits (c .before .before .args .rate) 99 (c .before .if1 .left) (c .operator-envelope-increment .ensures)
 
 pub operator-envelope-increment-spec : {M : Type 1} → statement M
 operator-envelope-increment-spec =

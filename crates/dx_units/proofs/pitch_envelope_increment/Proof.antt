@@ -14,7 +14,8 @@ pitch-envelope-increment-requires c κs = search needs
 
 returns-2 : tie.Need-returns-2
 unfolding pitchEnvelopeIncrementAnswer
-returns-2 c = field-fits (c .before .before .args .rate) 99 (c .before .if1 .left) (c .pitch-envelope-increment .ensures)
+returns-2 c =
+    field-fits (c .before .before .args .rate) 99 (c .before .if1 .left) (c .pitch-envelope-increment .ensures)
 
 pub pitch-envelope-increment-spec : {M : Type 1} → statement M
 pitch-envelope-increment-spec =

@@ -14,7 +14,8 @@ pitch-mod-sensitivity-requires c κs = search needs
 
 returns-2 : tie.Need-returns-2
 unfolding pitchModSensitivityAnswer
-returns-2 c = field-fits (c .before .before .args .sensitivity) 7 (c .before .if1 .left) (c .pitch-mod-sensitivity .ensures)
+returns-2 c =
+    field-fits (c .before .before .args .sensitivity) 7 (c .before .if1 .left) (c .pitch-mod-sensitivity .ensures)
 
 pub pitch-mod-sensitivity-spec : {M : Type 1} → statement M
 pitch-mod-sensitivity-spec = tie.close (tie.spec returns pitch-mod-sensitivity-requires returns-2)

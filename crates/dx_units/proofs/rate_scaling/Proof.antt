@@ -23,14 +23,16 @@ unfolding rateScalingAnswer decimal ofBits
 returns-2 c =
     let at-between = c .before .before in
     let at-if1 = at-between .before in
-    parameter-inside _ (at-if1 .before .args .note) 127 _ (le-leb _ _ (at-if1 .if1 .left)) (at-between .between .ensures)
+    parameter-inside _ (at-if1 .before .args .note) 127 _ (le-leb _ _ (at-if1 .if1 .left))
+    (at-between .between .ensures)
     (c .before .if2 .taken) (c .rate-scaling .ensures)
 
 returns-3 : tie.Need-returns-3
 unfolding rateScalingAnswer decimal ofBits
 returns-3 c =
     let at-if1 = c .before .before in
-    parameter-outside _ (at-if1 .before .args .note) 127 _ (le-leb _ _ (at-if1 .if1 .left)) (c .before .between .ensures)
+    parameter-outside _ (at-if1 .before .args .note) 127 _ (le-leb _ _ (at-if1 .if1 .left))
+    (c .before .between .ensures)
     (c .if2 .left)
 
 pub rate-scaling-spec : {M : Type 1} → statement M

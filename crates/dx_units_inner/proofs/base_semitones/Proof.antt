@@ -16,7 +16,8 @@ coarse-semitones-requires c κs = search needs
 
 returns : tie.Need-returns
 returns c =
-    base-note (c .before .before .args .mode) (c .before .before .args .coarse) (c .before .before .args .fine) (c .before .if1 .taken)
+    base-note (c .before .before .args .mode) (c .before .before .args .coarse) (c .before .before .args .fine)
+    (c .before .if1 .taken)
     (c .coarse-semitones .ensures)
 
 cast-result : tie.Need-cast-result
@@ -36,7 +37,9 @@ int-to-float-result c =
 
 returns-2 : tie.Need-returns-2
 unfolding decimal ofBits
-returns-2 c = base-hertz (c .before .before .args .mode) (c .before .before .args .coarse) (c .before .before .args .fine) (c .before .if1 .left)
+returns-2 c =
+    base-hertz (c .before .before .args .mode) (c .before .before .args .coarse) (c .before .before .args .fine)
+    (c .before .if1 .left)
 
 pub base-semitones-spec : {M : Type 1} → statement M
 base-semitones-spec =

@@ -12,7 +12,8 @@ f32-min-requires c κs = search needs
 returns : tie.Need-returns
 unfolding decimal ofBits
 returns c =
-    bent-one (c .before .before .args .t) (c .before .f32-min .result) (c .before .before .args .curve) (c .before .f32-min .ensures) (c .if1 .taken)
+    bent-one (c .before .before .args .t) (c .before .f32-min .result) (c .before .before .args .curve)
+    (c .before .f32-min .ensures) (c .if1 .taken)
 
 returns-2 : tie.Need-returns-2
 unfolding decimal ofBits

@@ -18,7 +18,8 @@ returns c =
 
 returns-2 : tie.Need-returns-2
 unfolding decimal ofBits
-returns-2 c = factor-none (c .before .before .args .mode) (c .before .before .args .fine) (c .before .if1 .taken) (c .if2 .left)
+returns-2 c =
+    factor-none (c .before .before .args .mode) (c .before .before .args .fine) (c .before .if1 .taken) (c .if2 .left)
 
 returns-3 : tie.Need-returns-3
 unfolding decimal ofBits

@@ -16,7 +16,8 @@ returns : tie.Need-returns
 unfolding decimal ofBits
 returns c =
     let s = c .before .before .before in
-    on-right (s .args .note) (s .args .left-depth) (s .args .right-depth) (s .args .left-curve) (s .args .right-curve) (s .args .break-point)
+    on-right (s .args .note) (s .args .left-depth) (s .args .right-depth) (s .args .left-curve) (s .args .right-curve)
+    (s .args .break-point)
     (c .before .if1 .taken) (c .side-scaling .ensures)
 
 side-scaling-requires-2 : tie.Need-side-scaling-requires-2
@@ -26,7 +27,8 @@ returns-2 : tie.Need-returns-2
 unfolding decimal ofBits
 returns-2 c =
     let s = c .before .before .before in
-    on-left (s .args .note) (s .args .left-depth) (s .args .right-depth) (s .args .left-curve) (s .args .right-curve) (s .args .break-point)
+    on-left (s .args .note) (s .args .left-depth) (s .args .right-depth) (s .args .left-curve) (s .args .right-curve)
+    (s .args .break-point)
     (c .before .if1 .left) (c .side-scaling2 .ensures)
 
 pub keyboard-scaling-spec : {M : Type 1} → statement M

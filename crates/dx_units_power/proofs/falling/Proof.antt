@@ -3,7 +3,8 @@ use native.Mathlib.Omega.{arith}
 use Prim.Native.Nat.{_+_}
 use lib.Ieee.{ofBits}
 use Rattle.numbers.specs.F32.{decimal, minusDecimal}
-use Rattle.dx_units_power.proofs.Reach.{Falling, is-falling, falling-count, falling-above, falling-under, exact, fallen}
+use Rattle.dx_units_power.proofs.Reach.{Falling, is-falling, falling-count, falling-above, falling-under, exact}
+use Rattle.dx_units_power.proofs.Reach.{fallen}
 use borrow.Author.Needs.{needs}
 use Rattle.dx_units_power.proofs.falling.Statement.{statement}
 use Rattle.dx_units_power.proofs.falling.Tie as tie
@@ -24,7 +25,8 @@ add-n c = omega (arith, c .truncating-f32-to-u64 .ensures, falling-count (c .bef
 int-to-float-mantissa : tie.Need-int-to-float-mantissa
 int-to-float-mantissa c =
     let s = c .before .before in
-    exact (c .before .truncating-f32-to-u64 .result + 1) (omega (arith, c .before .truncating-f32-to-u64 .ensures, falling-count (s .args .x) (there s)))
+    exact (c .before .truncating-f32-to-u64 .result + 1)
+    (omega (arith, c .before .truncating-f32-to-u64 .ensures, falling-count (s .args .x) (there s)))
 
 mantissa-requires : tie.Need-mantissa-requires
 mantissa-requires c κs = search needs

@@ -15,7 +15,8 @@ returns : tie.Need-returns
 unfolding mantissaBits decimal ofBits
 returns c =
     let s = c .before .before in
-    simp (is-order 2 (s .args .order) (omega arith) (s .fits .order .sfits) (c .before .if1 .taken)) (c .f32-to-bits .ensures)
+    simp (is-order 2 (s .args .order) (omega arith) (s .fits .order .sfits) (c .before .if1 .taken))
+    (c .f32-to-bits .ensures)
 
 f32-to-bits-requires-2 : tie.Need-f32-to-bits-requires-2
 f32-to-bits-requires-2 c κs = search needs

@@ -15,7 +15,8 @@ returns : tie.Need-returns
 returns c =
     let s = c .before .before in
     c .pow-2-fast-1 .ensures
-    ∙ ap (pow2Fast (s .args .x)) (sym (the-order 1 (s .args .order) (omega arith) (s .fits .order .sfits) (c .before .if1 .taken)))
+    ∙ ap (pow2Fast (s .args .x))
+    (sym (the-order 1 (s .args .order) (omega arith) (s .fits .order .sfits) (c .before .if1 .taken)))
 
 pow-2-fast-2-requires : tie.Need-pow-2-fast-2-requires
 pow-2-fast-2-requires c κs = search needs
@@ -24,7 +25,8 @@ returns-2 : tie.Need-returns-2
 returns-2 c =
     let s = c .before .before .before in
     c .pow-2-fast-2 .ensures
-    ∙ ap (pow2Fast (s .args .x)) (sym (the-order 2 (s .args .order) (omega arith) (s .fits .order .sfits) (c .before .if2 .taken)))
+    ∙ ap (pow2Fast (s .args .x))
+    (sym (the-order 2 (s .args .order) (omega arith) (s .fits .order .sfits) (c .before .if2 .taken)))
 
 pow-2-any-requires : tie.Need-pow-2-any-requires
 pow-2-any-requires c κs =

@@ -2,7 +2,8 @@
 use native.Mathlib.Omega.{arith}
 use lib.Ieee.{ofBits}
 use Rattle.numbers.specs.F32.{decimal}
-use Rattle.dx_units_power.proofs.Reach.{Rising, is-rising, rising-count, rising-above, rising-under, exact, risen}
+use Rattle.dx_units_power.proofs.Reach.{Rising, is-rising, rising-count, rising-above, rising-under, exact}
+use Rattle.dx_units_power.proofs.Reach.{risen}
 use borrow.Author.Needs.{needs}
 use Rattle.dx_units_power.proofs.rising.Statement.{statement}
 use Rattle.dx_units_power.proofs.rising.Tie as tie
@@ -20,7 +21,8 @@ cast-n c = omega (arith, c .truncating-f32-to-u64 .ensures, rising-count (c .bef
 int-to-float-mantissa : tie.Need-int-to-float-mantissa
 int-to-float-mantissa c =
     let s = c .before .before in
-    exact (c .before .truncating-f32-to-u64 .result) (omega (arith, c .before .truncating-f32-to-u64 .ensures, rising-count (s .args .x) (there s)))
+    exact (c .before .truncating-f32-to-u64 .result)
+    (omega (arith, c .before .truncating-f32-to-u64 .ensures, rising-count (s .args .x) (there s)))
 
 mantissa-requires : tie.Need-mantissa-requires
 mantissa-requires c κs = search needs

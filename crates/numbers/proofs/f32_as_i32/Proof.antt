@@ -19,7 +19,8 @@ truncating-f32-to-i64-requires c κs =
     (low-wider 31 63 x (omega arith) (at-least-neg 31 x (c .if2 .taken)), high-wider 31 63 x (omega arith) (under 31 x (c .before .if1 .taken)))
 
 -- the call's result, read back from its 64 bits
-same : (c : tie.After-truncating-f32-to-i64) → toZ w64 (ofZ w64 (c .truncating-f32-to-i64 .result)) ≡ toSigned 31 (c .before .before .before .args .x)
+same : (c : tie.After-truncating-f32-to-i64)
+    → toZ w64 (ofZ w64 (c .truncating-f32-to-i64 .result)) ≡ toSigned 31 (c .before .before .before .args .x)
 unfolding ofBits neg
 same c =
     let at-start = c .before .before .before in

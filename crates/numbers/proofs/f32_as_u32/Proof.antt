@@ -41,7 +41,8 @@ truncating-f32-to-u64-requires c κs =
     let x = c .before .before .args .x in
     (subst T (sym (c .if3 .taken)) tt, small-enough 23 64 x (omega arith) (not-at-least 23 x (c .before .if1 .left)) (c .if3 .taken))
 
-same : (c : tie.After-truncating-f32-to-u64) → c .truncating-f32-to-u64 .result ≡ toUnsigned 32 (c .before .before .before .args .x)
+same : (c : tie.After-truncating-f32-to-u64)
+    → c .truncating-f32-to-u64 .result ≡ toUnsigned 32 (c .before .before .before .args .x)
 unfolding ofBits
 same c =
     let at-start = c .before .before .before in

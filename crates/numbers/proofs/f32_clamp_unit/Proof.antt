@@ -1,4 +1,5 @@
--- `numbers::f32_clamp_unit` meets its contract: each arm returns what the definition picks under the tests that led there. Assumes nothing.
+-- `numbers::f32_clamp_unit` meets its contract: each arm returns what the definition picks under the tests that led
+-- there. Assumes nothing.
 use lib.Ieee.{ofBits, round}
 use Rattle.numbers.specs.F32.{decimal}
 use Rattle.numbers.specs.Extremes.{clamped}

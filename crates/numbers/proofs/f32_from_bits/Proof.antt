@@ -1,4 +1,5 @@
--- `numbers::f32_from_bits` meets its contract: a pattern is a NaN's where its lower 31 bits are above an infinity's. Assumes nothing.
+-- `numbers::f32_from_bits` meets its contract: a pattern is a NaN's where its lower 31 bits are above an infinity's.
+-- Assumes nothing.
 use mathlib.Core.Path.{_≡_, sym, _∙_, subst}
 use mathlib.Core.Bool.{Bool, false, not}
 use Prim.Native.Nat.{ℕ, _%_, _<_, _≤_}
@@ -15,7 +16,9 @@ not-nan : (b : ℕ) → b % 2147483648 ≤ 2139095040 → nanBits binary32 b ≡
 not-nan b h = nanBits-above binary32 b ∙ le-ltb 2139095040 (b % 2147483648) h
 
 is-nan : (b : ℕ) → 2139095040 < b % 2147483648 → ofBits binary32 b ≡ nan
-is-nan b h = only-nan (ofBits binary32 b) (sym (nanBits-is binary32 b) ∙ nanBits-above binary32 b ∙ lt-ltb 2139095040 (b % 2147483648) h)
+is-nan b h =
+    only-nan (ofBits binary32 b)
+    (sym (nanBits-is binary32 b) ∙ nanBits-above binary32 b ∙ lt-ltb 2139095040 (b % 2147483648) h)
 
 returns : tie.Need-returns
 unfolding div ofBits

@@ -16,16 +16,19 @@ cast-result : tie.Need-cast-result
 cast-result c =
     let n = c .before .args .n in
     let h = c .before .fits .n .sfits in
-    subst (λ (z : ℤ). T (nonNeg z) × Fits w32 (natAbs z)) (sym (back n h)) (up-cast n h (subst (λ (z : ℤ). leZ (pos 0) z ≡ true) (back n h) (c .if1 .taken)))
+    subst (λ (z : ℤ). T (nonNeg z) × Fits w32 (natAbs z)) (sym (back n h))
+    (up-cast n h (subst (λ (z : ℤ). leZ (pos 0) z ≡ true) (back n h) (c .if1 .taken)))
 
 negative : (c : tie.Else1) → leZ (pos 0) (c .before .args .n) ≡ false
-negative c = subst (λ (z : ℤ). leZ (pos 0) z ≡ false) (back (c .before .args .n) (c .before .fits .n .sfits)) (c .if1 .left)
+negative c =
+    subst (λ (z : ℤ). leZ (pos 0) z ≡ false) (back (c .before .args .n) (c .before .fits .n .sfits)) (c .if1 .left)
 
 -- -1 - n
 less : (c : tie.Else1) → negsuc 0 -ℤ toZ w32 (ofZ w32 (c .before .args .n)) ≡ pos (mag (c .before .args .n))
 less c = rw (back (c .before .args .n) (c .before .fits .n .sfits)) (flipped (c .before .args .n) (negative c))
 
-less-back : (c : tie.Else1) → toZ w32 (ofZ w32 (negsuc 0 -ℤ toZ w32 (ofZ w32 (c .before .args .n)))) ≡ pos (mag (c .before .args .n))
+less-back : (c : tie.Else1)
+    → toZ w32 (ofZ w32 (negsuc 0 -ℤ toZ w32 (ofZ w32 (c .before .args .n)))) ≡ pos (mag (c .before .args .n))
 less-back c = rw (less c) (back (pos (mag (c .before .args .n))) (c .before .fits .n .sfits))
 
 sub-result : tie.Need-sub-result

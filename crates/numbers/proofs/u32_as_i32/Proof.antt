@@ -29,7 +29,8 @@ returns c = search needs
 returns-2 : tie.Need-returns-2
 returns-2 c =
     let b = c .before .args .b in
-    ap (λ (z : ℤ). toZ w32 (ofZ w32 z)) (lifted b (c .if1 .left) (c .before .fits .b .fits)) ∙ toZ-ofZ w32 (toZ w32 b) (toZ-fits w32 b (c .before .fits .b))
+    ap (λ (z : ℤ). toZ w32 (ofZ w32 z)) (lifted b (c .if1 .left) (c .before .fits .b .fits))
+    ∙ toZ-ofZ w32 (toZ w32 b) (toZ-fits w32 b (c .before .fits .b))
 
 pub u32-as-i32-spec : {M : Type 1} → statement M
 u32-as-i32-spec =

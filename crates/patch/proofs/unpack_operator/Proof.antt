@@ -1,4 +1,5 @@
--- `patch::unpack_operator` meets its contract. The envelope and the scaling are unpacked by their own functions, every other field is read by `whole` or `field`. Assumes nothing.
+-- `patch::unpack_operator` meets its contract. The envelope and the scaling are unpacked by their own functions, every
+-- other field is read by `whole` or `field`. Assumes nothing.
 use borrow.Author.Needs.{needs}
 use Rattle.patch.specs.Packed.{bitsIn, readIn}
 use Rattle.patch.specs.Form.{operatorWith}

@@ -1,4 +1,5 @@
--- `patch::unpack_stages` meets its contract. Each byte is read by `whole` and takes the place of a zero. Assumes nothing.
+-- `patch::unpack_stages` meets its contract. Each byte is read by `whole` and takes the place of a zero. Assumes
+-- nothing.
 use native.Mathlib.Nat.{add-zero}
 use borrow.Author.Needs.{needs}
 use Rattle.patch.specs.Packed.{bitsIn, readIn}

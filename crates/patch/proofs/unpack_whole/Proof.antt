@@ -1,4 +1,5 @@
--- `patch::unpack_whole` meets its contract. The parts are unpacked by their own functions, the single numbers are read by `field`. Assumes nothing.
+-- `patch::unpack_whole` meets its contract. The parts are unpacked by their own functions, the single numbers are read
+-- by `field`. Assumes nothing.
 use borrow.Author.Needs.{needs}
 use Rattle.patch.specs.Packed.{bitsIn, readIn, unpacked}
 use Rattle.patch.specs.Form.{patchWith}

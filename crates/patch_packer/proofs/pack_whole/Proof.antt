@@ -1,4 +1,5 @@
--- `patch_packer::pack_whole` meets its contract. The invariant: the first i operators are pasted into zeros. Assumes nothing.
+-- `patch_packer::pack_whole` meets its contract. The invariant: the first i operators are pasted into zeros. Assumes
+-- nothing.
 use mathlib.Core.Path.{_≡_, refl}
 use Prim.Native.Nat.{_-_, _≤_}
 use native.Mathlib.Omega.{arith}

@@ -1,4 +1,5 @@
--- `patch_packer::put` meets its contract. The invariant: `out` is what it was with the first i bytes of b pasted in. Assumes nothing.
+-- `patch_packer::put` meets its contract. The invariant: `out` is what it was with the first i bytes of b pasted in.
+-- Assumes nothing.
 use mathlib.Core.Path.{_≡_, refl, _∙_, ap}
 use mathlib.Core.List.{List}
 use Prim.Native.Nat.{ℕ, _+_, _-_, _≤_, _<_}
@@ -10,7 +11,8 @@ use denote.Ref.{now}
 use Rattle.patch_packer.proofs.put.Statement.{statement}
 use Rattle.patch_packer.proofs.put.Tie as tie
 
-step : (d : List ℕ) (at : ℕ) (b : List ℕ) (i : ℕ) (o : List ℕ) → o ≡ paste d at b i → at + i < length d → i < length b → set o (at + i) (getD b i 0) ≡ paste d at b (i + 1)
+step : (d : List ℕ) (at : ℕ) (b : List ℕ) (i : ℕ) (o : List ℕ) → o ≡ paste d at b i → at + i < length d → i < length b
+    → set o (at + i) (getD b i 0) ≡ paste d at b (i + 1)
 step d at b i o e h k = rw (e, add-one) (paste-suc d at b i 0 h k)
 
 abbrev Inv-loop : tie.InvT-loop

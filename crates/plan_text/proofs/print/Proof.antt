@@ -5,7 +5,8 @@ use denote.Ref.{now}
 use lib.ListN.{length}
 use Rattle.algorithms.specs.Plan.{planned}
 use Rattle.algorithms.specs.Table.{six}
-use Rattle.plan_text.proofs.Pieces.{then, row-size, count-size, row-most, calls-most, refusal-printed, plan-printed}
+use Rattle.plan_text.proofs.Pieces.{then, row-size, count-size, row-most, calls-most, refusal-printed}
+use Rattle.plan_text.proofs.Pieces.{plan-printed}
 use borrow.Author.Needs.{needs}
 use Rattle.plan_text.proofs.print.Statement.{statement}
 use Rattle.plan_text.proofs.print.Tie as tie

@@ -1,4 +1,5 @@
--- `plan_text::put` meets its contract. The loop's invariant: what is still to come, written behind what was, gives the whole piece. Assumes nothing.
+-- `plan_text::put` meets its contract. The loop's invariant: what is still to come, written behind what was, gives the
+-- whole piece. Assumes nothing.
 use mathlib.Core.Path.{_≡_, sym, _∙_}
 use Prim.Native.Nat.{_≤_, _+_, _-_}
 use native.Mathlib.Nat.{add-zero}

@@ -12,7 +12,8 @@ use Rattle.plan_text.proofs.put_bytes.Statement.{statement}
 use Rattle.plan_text.proofs.put_bytes.Tie as tie
 
 abbrev Inv-loop : tie.InvT-loop
-Inv-loop out₀ at bytes place₀ k₀ out place k = (k ≤ length bytes) × (place ≡ at + 3 * k) × Written out₀ at (bytesText (take k bytes)) out place
+Inv-loop out₀ at bytes place₀ k₀ out place k =
+    (k ≤ length bytes) × (place ≡ at + 3 * k) × Written out₀ at (bytesText (take k bytes)) out place
 
 abbrev μ-loop : tie.MeasureT-loop
 μ-loop out₀ at bytes place₀ k₀ out place k = length bytes - k

@@ -10,7 +10,8 @@ use Rattle.plan_text.proofs.put_calls.Statement.{statement}
 use Rattle.plan_text.proofs.put_calls.Tie as tie
 
 abbrev Inv-loop : tie.InvT-loop
-Inv-loop out₀ at plan count place₀ k₀ out place k = (k ≤ count) × (place ≤ at + 21 * k) × Written out₀ at (callsText (take k (plan .calls))) out place
+Inv-loop out₀ at plan count place₀ k₀ out place k =
+    (k ≤ count) × (place ≤ at + 21 * k) × Written out₀ at (callsText (take k (plan .calls))) out place
 
 abbrev μ-loop : tie.MeasureT-loop
 μ-loop out₀ at plan count place₀ k₀ out place k = count - k

@@ -30,7 +30,8 @@ cast-result : tie.Need-cast-result
 unfolding ofBits neg nearBy decimal minusDecimal div round
 cast-result c =
     let t = near-halved (c .before .before .args .pm) (c .before .before .pre) in
-    subst (λ (z : ℤ). T (nonNeg z) × Fits w32 (natAbs z)) (sym (t .cast)) (tt, record { fits = let s = t .small in omega arith })
+    subst (λ (z : ℤ). T (nonNeg z) × Fits w32 (natAbs z)) (sym (t .cast))
+    (tt, record { fits = let s = t .small in omega arith })
 
 returns : tie.Need-returns
 unfolding stepsOf ofBits neg nearBy decimal minusDecimal div round

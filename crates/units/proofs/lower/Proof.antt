@@ -20,21 +20,24 @@ loop-less : tie.Need-loop-less Inv-loop μ-loop
 unfolding ofBits neg decimal minusDecimal
 loop-less c =
     let a = c .before .before in
-    fewer above down120 times1024 (a .args .semitones) (decimal 1 0) (lowered-once (a .args .semitones) (a .pre)) (c .before .loop .inv)
+    fewer above down120 times1024 (a .args .semitones) (decimal 1 0) (lowered-once (a .args .semitones) (a .pre))
+    (c .before .loop .inv)
     (c .loop-test .taken)
 
 loop-again : tie.Need-loop-again Inv-loop μ-loop
 unfolding ofBits neg decimal minusDecimal
 loop-again c =
     let a = c .before .before in
-    again above down120 times1024 (a .args .semitones) (decimal 1 0) (lowered-once (a .args .semitones) (a .pre)) (c .before .loop .inv)
+    again above down120 times1024 (a .args .semitones) (decimal 1 0) (lowered-once (a .args .semitones) (a .pre))
+    (c .before .loop .inv)
     (c .loop-test .taken)
 
 returns : tie.Need-returns Inv-loop μ-loop
 unfolding ofBits neg decimal minusDecimal lowered
 returns c =
     let a = c .before .before in
-    ends above down120 times1024 (a .args .semitones) (decimal 1 0) (lowered-once (a .args .semitones) (a .pre)) (c .before .loop .inv)
+    ends above down120 times1024 (a .args .semitones) (decimal 1 0) (lowered-once (a .args .semitones) (a .pre))
+    (c .before .loop .inv)
     (c .loop-test .left)
 
 pub lower-spec : {M : Type 1} → statement M

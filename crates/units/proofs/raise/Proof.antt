@@ -20,21 +20,24 @@ loop-less : tie.Need-loop-less Inv-loop μ-loop
 unfolding ofBits neg decimal minusDecimal
 loop-less c =
     let a = c .before .before in
-    fewer below up120 over1024 (a .args .x .semitones) (a .args .x .scale) (raised-once (a .args .x .semitones) (a .pre)) (c .before .loop .inv)
+    fewer below up120 over1024 (a .args .x .semitones) (a .args .x .scale)
+    (raised-once (a .args .x .semitones) (a .pre)) (c .before .loop .inv)
     (c .loop-test .taken)
 
 loop-again : tie.Need-loop-again Inv-loop μ-loop
 unfolding ofBits neg decimal minusDecimal
 loop-again c =
     let a = c .before .before in
-    again below up120 over1024 (a .args .x .semitones) (a .args .x .scale) (raised-once (a .args .x .semitones) (a .pre)) (c .before .loop .inv)
+    again below up120 over1024 (a .args .x .semitones) (a .args .x .scale)
+    (raised-once (a .args .x .semitones) (a .pre)) (c .before .loop .inv)
     (c .loop-test .taken)
 
 returns : tie.Need-returns Inv-loop μ-loop
 unfolding ofBits neg decimal minusDecimal raised
 returns c =
     let a = c .before .before in
-    ends below up120 over1024 (a .args .x .semitones) (a .args .x .scale) (raised-once (a .args .x .semitones) (a .pre)) (c .before .loop .inv)
+    ends below up120 over1024 (a .args .x .semitones) (a .args .x .scale) (raised-once (a .args .x .semitones) (a .pre))
+    (c .before .loop .inv)
     (c .loop-test .left)
 
 pub raise-spec : {M : Type 1} → statement M

@@ -20,7 +20,8 @@ fine : (c : tie.After-f32-as-usize2) → c .f32-as-usize2 .result < 256
 unfolding decimal ofBits
 fine c =
     let w = c .before .before in
-    fine-index (w .before .args .semitones) (w .f32-as-usize .result) (w .f32-as-usize .ensures) (c .f32-as-usize2 .result)
+    fine-index (w .before .args .semitones) (w .f32-as-usize .result) (w .f32-as-usize .ensures)
+    (c .f32-as-usize2 .result)
     (c .f32-as-usize2 .ensures) (w .before .pre)
 
 f32-as-usize-requires : tie.Need-f32-as-usize-requires
@@ -52,7 +53,8 @@ unfolding decimal ofBits
 returns c =
     let d = c .before .before in
     let s = d .before .before .before in
-    entries (s .args .semitones) (d .before .before .f32-as-usize .result) (d .before .before .f32-as-usize .ensures) (d .f32-as-usize2 .result)
+    entries (s .args .semitones) (d .before .before .f32-as-usize .result) (d .before .before .f32-as-usize .ensures)
+    (d .f32-as-usize2 .result)
     (d .f32-as-usize2 .ensures)
     (now (s .args .high)) (now (s .args .low))
 

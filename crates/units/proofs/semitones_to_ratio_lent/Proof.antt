@@ -12,17 +12,22 @@ use Rattle.units.proofs.semitones_to_ratio_lent.Tie as tie
 
 near : (c : tie.Then2) → T (within 240 (c .before .before .args .semitones))
 unfolding ofBits neg decimal minusDecimal
-near c = is-within 240 (c .before .before .args .semitones) (subst T (sym (c .before .if1 .taken)) tt) (subst T (sym (c .if2 .taken)) tt)
+near c =
+    is-within 240 (c .before .before .args .semitones) (subst T (sym (c .before .if1 .taken)) tt)
+    (subst T (sym (c .if2 .taken)) tt)
 
 lower-requires : tie.Need-lower-requires
 lower-requires c κs = near c
 
 raise-requires : tie.Need-raise-requires
-raise-requires c κs = subst (λ (x : Shifted). T (within 240 (x .semitones))) (sym (c .lower .ensures)) (lowered-within _ (near (c .before)))
+raise-requires c κs =
+    subst (λ (x : Shifted). T (within 240 (x .semitones))) (sym (c .lower .ensures))
+    (lowered-within _ (near (c .before)))
 
 semitones-to-ratio-requires : tie.Need-semitones-to-ratio-requires
 semitones-to-ratio-requires c κs =
-    subst (λ (x : Shifted). T (within 120 (x .semitones))) (sym (c .raise .ensures ∙ ap raised (c .before .lower .ensures))) (handed-on _ (near (c .before .before)))
+    subst (λ (x : Shifted). T (within 120 (x .semitones)))
+    (sym (c .raise .ensures ∙ ap raised (c .before .lower .ensures))) (handed-on _ (near (c .before .before)))
 
 returns : tie.Need-returns
 returns c =
@@ -40,7 +45,8 @@ returns-2 c =
 
 returns-3 : tie.Need-returns-3
 unfolding ofBits neg decimal minusDecimal
-returns-3 c = far-below (now (c .before .args .high)) (now (c .before .args .low)) (c .before .args .semitones) (c .if1 .left)
+returns-3 c =
+    far-below (now (c .before .args .high)) (now (c .before .args .low)) (c .before .args .semitones) (c .if1 .left)
 
 pub semitones-to-ratio-lent-spec : {M : Type 1} → statement M
 semitones-to-ratio-lent-spec =

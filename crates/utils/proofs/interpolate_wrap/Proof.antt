@@ -19,7 +19,8 @@ returns : tie.Need-returns
 returns c =
     let s = c .before .before .before .before in
     let n = c .before .before .f32-as-i32 in
-    wrapped (now (s .args .table)) (s .args .index) (s .args .size) (n .ensures) (back (n .result) (n .ok)) (c .before .i32-as-f32 .ensures)
+    wrapped (now (s .args .table)) (s .args .index) (s .args .size) (n .ensures) (back (n .result) (n .ok))
+    (c .before .i32-as-f32 .ensures)
     (c .interpolate .ensures)
 
 pub interpolate-wrap-spec : {M : Type 1} → statement M

@@ -12,7 +12,8 @@ returns : tie.Need-returns
 unfolding div ofBits
 returns c =
     let s = c .before .before in
-    no-entry (now (s .args .table)) (c .if1 .taken) ∙ at-last (now (s .args .table)) (s .args .place) _ refl (omega arith)
+    no-entry (now (s .args .table)) (c .if1 .taken)
+    ∙ at-last (now (s .args .table)) (s .args .place) _ refl (omega arith)
 
 sub-last : tie.Need-sub-last
 sub-last c = search needs

@@ -1,6 +1,7 @@
--- `bank::Reader::part` meets its contract: a walk of its MIR, by hand. The struct is taken apart, and the function `part` is called on the slice and the number. All that the proof knows of that is that it meets its contract.
--- The struct is Copy: what it owns is had twice, one copy is kept whole for the exit, and of the other what dump owns goes to the callee, beside the lifetime's token, which comes back.
--- Assumes nothing.
+-- `bank::Reader::part` meets its contract: a walk of its MIR, by hand. The struct is taken apart, and the function
+-- `part` is called on the slice and the number. All that the proof knows of that is that it meets its contract. The
+-- struct is Copy: what it owns is had twice, one copy is kept whole for the exit, and of the other what dump owns goes
+-- to the callee, beside the lifetime's token, which comes back. Assumes nothing.
 use mathlib.Core.Path.{_≡_, refl}
 use Prim.Native.Nat.{ℕ, _<_, _^_}
 use mathlib.Core.List.{List, [], _∷_}
@@ -18,9 +19,11 @@ use ghost.Atoms.{Atoms, sem}
 use contract.Lifetimes.{Lfts}
 use contract.Monad.{Fun, fact}
 use contract.Running.{givenOf, tables, tablesOf}
-use types.Kit.{Given, ‵, raw, _⊛_, given, ⋆, some, later, _$_, _∵_, !, qed, by, move, drop, use1, use2, split, join, learn, pick, fsplit, fjoin, suffices, frame, await, done}
+use types.Kit.{Given, ‵, raw, _⊛_, given, ⋆, some, later, _$_, _∵_, !, qed, by, move, drop, use1, use2, split, join}
+use types.Kit.{learn, pick, fsplit, fjoin, suffices, frame, await, done}
 use types.Part.{whole, sub, look-in}
-use types.Run.{look, init, forget, stop, fld, from, load, of-opd, and-then, no-more, assigns, land, returns, enter, alloc1, alloc0, params1, pass1, pass0, free1, free0}
+use types.Run.{look, init, forget, stop, fld, from, load, of-opd, and-then, no-more, assigns, land, returns, enter}
+use types.Run.{alloc1, alloc0, params1, pass1, pass0, free1, free0}
 use sound.WpLaws.{FmC, fmOf, WpFn-mono}
 use denote.RattleType.{RattleType, owns}
 use denote.Laws.{Is, shows}
@@ -82,7 +85,9 @@ module _ {M : Type 1} (𝓤 : URA M) (H : Heap 𝓤) (A : Atoms 𝓤) (W : Given
   R = ShrSlice (named 0) κ u8
 
   abbrev Post : Val → SProp 𝓤
-  Post = walkOf 𝓤 H A part.ended stayed (part.clauses 𝓤 H A mem run) .post (((κ, tt), (q, tt), tt, (d, tt), (mach ∷ [], tt)), tt)
+  Post =
+      walkOf 𝓤 H A part.ended stayed (part.clauses 𝓤 H A mem run) .post
+      (((κ, tt), (q, tt), tt, (d, tt), (mach ∷ [], tt)), tt)
 
   abbrev Own : Fml
   Own = B (κ, tt) .own d (mach ∷ [])
@@ -95,7 +100,10 @@ module _ {M : Type 1} (𝓤 : URA M) (H : Heap 𝓤) (A : Atoms 𝓤) (W : Given
   to = (((κ, tt), (q, tt), tt, (d .dump, (d .slot, tt)), passed), tt)
 
   asked : ent 𝓤 (onEntry 𝓤 H A callee.signature (κ, tt) (q, tt) (d .dump, (d .slot, tt)) passed) (PartAt 𝓤 H A mem run .pre to)
-  asked = qed W ((‵ (flft κ q) ⊛ ‵ ftrue) ∷ ‵ (owns (ShrSlice (named 0) κ u8 ∷ usize ∷ []) (d .dump, (d .slot, tt)) passed) ∷ []) ∵ join ! $ frame ! $ done !
+  asked =
+      qed W
+      ((‵ (flft κ q) ⊛ ‵ ftrue) ∷ ‵ (owns (ShrSlice (named 0) κ u8 ∷ usize ∷ []) (d .dump, (d .slot, tt)) passed) ∷ [])
+      ∵ join ! $ frame ! $ done !
 
   -- what the struct owns gives what the callee asks, and is kept
   apart : d .slot < 2 ^ 64 → ent 𝓤 (onEntry 𝓤 H A part.signature (κ, tt) (q, tt) (d, tt) (mach ∷ [], tt)) (sep 𝓤 (PartAt 𝓤 H A mem run .pre to) (sem 𝓤 H A Own))
@@ -109,9 +117,12 @@ module _ {M : Type 1} (𝓤 : URA M) (H : Heap 𝓤) (A : Atoms 𝓤) (W : Given
 
   -- of the callee's `ensured`, the clause alone: it has no `&mut`, so what is said of last values is dropped
   said : (r : RefT (List ℕ)) → ent 𝓤 (ensured 𝓤 H A callee.ended (callee.clauses 𝓤 H A mem run) (κ, tt) (d .dump, (d .slot, tt)) tt r) (fact 𝓤 (now r ≡ found))
-  said r = exE 𝓤 _ (λ ws. snd∗ 𝓤 (sem 𝓤 H A (lasts callee.ended (κ, tt) (d .dump, (d .slot, tt)) ws)) (fact 𝓤 (now r ≡ found)))
+  said r =
+      exE 𝓤 _
+      (λ ws. snd∗ 𝓤 (sem 𝓤 H A (lasts callee.ended (κ, tt) (d .dump, (d .slot, tt)) ws)) (fact 𝓤 (now r ≡ found)))
 
-  exits : (r : RefT (List ℕ)) (u : Val) → now r ≡ found → ent 𝓤 (⋆ 𝓤 H A (‵ (R .own r (u ∷ [])) ∷ (‵ (flft κ q) ⊛ ‵ ftrue) ∷ ‵ Own ∷ [])) (Post u)
+  exits : (r : RefT (List ℕ)) (u : Val) → now r ≡ found
+      → ent 𝓤 (⋆ 𝓤 H A (‵ (R .own r (u ∷ [])) ∷ (‵ (flft κ q) ⊛ ‵ ftrue) ∷ ‵ Own ∷ [])) (Post u)
   exits r u e =
       qed W (‵ (R .own r (u ∷ [])) ∷ (‵ (flft κ q) ⊛ ‵ ftrue) ∷ ‵ Own ∷ []) ∵
       suffices ! _ (ends-at 𝓤 H A part.ended stayed (part.clauses 𝓤 H A mem run) W (((κ, tt), (q, tt), tt, (d, tt), (mach ∷ [], tt)), tt) u r (tt, tt) (tt, tt)) $ says ! e $
@@ -137,13 +148,18 @@ module _ {M : Type 1} (𝓤 : URA M) (H : Heap 𝓤) (A : Atoms 𝓤) (W : Given
 module _ {M : Type 1} (𝓤 : URA M) (H : Heap 𝓤) (A : Atoms 𝓤) (W : Given 𝓤 H A) (mem : Memory → SProp 𝓤) (run : Routine → Fun 𝓤) where
   part-walks : (C : Calls 𝓤 H) (Λ : Loops 𝓤 H) → FmC 𝓤 H (W .laws) C → Triple 𝓤 (C #bank·part) (PartAt 𝓤 H A mem run)
       → Walks 𝓤 H A part.ended stayed (WpFn 𝓤 H C Λ code.function) (part.clauses 𝓤 H A mem run)
-  part-walks C Λ fm known = walked 𝓤 H A part.ended stayed (part.clauses 𝓤 H A mem run) (WpFn 𝓤 H C Λ code.function) (λ κs. (LL.vals (T.the-type (namedLft 1 0 tt κs)) (T′.the-laws (namedLft 1 0 tt κs)), tt)) (λ κs. (LL.tells (T.the-type (namedLft 1 0 tt κs)) (T′.the-laws (namedLft 1 0 tt κs)), tt))
+  part-walks C Λ fm known =
+      walked 𝓤 H A part.ended stayed (part.clauses 𝓤 H A mem run) (WpFn 𝓤 H C Λ code.function)
+      (λ κs. (LL.vals (T.the-type (namedLft 1 0 tt κs)) (T′.the-laws (namedLft 1 0 tt κs)), tt))
+      (λ κs. (LL.tells (T.the-type (namedLft 1 0 tt κs)) (T′.the-laws (namedLft 1 0 tt κs)), tt))
       (λ κs qs bounds a g are. via 𝓤 _ (fst∗ 𝓤 _ (emp 𝓤)) (walk 𝓤 H A W mem run (κs .0) (qs .0) (a .0) C Λ fm known (LL.lawful (T.the-type (namedLft 1 0 tt κs)) (T′.the-laws (namedLft 1 0 tt κs)) 𝓤 H A W .typed (a .0) _ (are .0) .0)))
 
 part-meets : {M : Type 1} (𝓤 : URA M) (H : Heap 𝓤) (A : Atoms 𝓤) (W : Given 𝓤 H A) (mem : Memory → SProp 𝓤) (run : Routine → Fun 𝓤) (𝓣 : Tables 𝓤 H)
     → Triple 𝓤 (𝓣 .C #bank·part) (PartAt 𝓤 H A mem run)
     → Meets 𝓤 H A part.signature (WpFn 𝓤 H (𝓣 .C) (𝓣 .Λ) code.function) (part.spec 𝓤 H A mem run)
-part-meets 𝓤 H A W mem run 𝓣 known-callee = walk-meets 𝓤 H A part.ended stayed W (goes-none 𝓤 H A W 1 B yes (λ κs x f. refl), tt) (part.clauses 𝓤 H A mem run) (WpFn 𝓤 H (𝓣 .C) (𝓣 .Λ) code.function) (WpFn-mono 𝓤 H (W .laws) 𝓣 code.function)
+part-meets 𝓤 H A W mem run 𝓣 known-callee =
+    walk-meets 𝓤 H A part.ended stayed W (goes-none 𝓤 H A W 1 B yes (λ κs x f. refl), tt) (part.clauses 𝓤 H A mem run)
+    (WpFn 𝓤 H (𝓣 .C) (𝓣 .Λ) code.function) (WpFn-mono 𝓤 H (W .laws) 𝓣 code.function)
     (part-walks 𝓤 H A W mem run (𝓣 .C) (𝓣 .Λ) (fmOf 𝓤 H (W .laws) 𝓣) known-callee)
 
 pub part-spec : {M : Type 1} → stated.statement M

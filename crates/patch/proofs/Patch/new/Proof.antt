@@ -1,6 +1,7 @@
 -- `patch::Patch::new` meets its contract. Its operators are fresh, each other number is 0. Assumes nothing.
 use borrow.Author.Needs.{needs}
-use Rattle.patch.specs.Form.{envelopeWith, scalingWith, operatorWith, modulationsWith, nameWith, patchWith, zeroPatch}
+use Rattle.patch.specs.Form.{envelopeWith, scalingWith, operatorWith, modulationsWith, nameWith, patchWith}
+use Rattle.patch.specs.Form.{zeroPatch}
 use Rattle.patch.proofs.Patch.new.Statement.{statement}
 use Rattle.patch.proofs.Patch.new.Tie as tie
 
