@@ -1,6 +1,2 @@
--- the laws of the definitions
+-- the laws of the answers
 pub mod Laws
-pub mod Positions
-pub mod Segments
-pub mod Reached
-pub mod Scrubs

@@ -1,5 +1,2 @@
 -- the definitions that the contracts cite
-pub mod Envelope
-pub mod Set
-pub mod Scrub
 pub mod Answers

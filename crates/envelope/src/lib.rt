@@ -1,71 +1,45 @@
-// Envelopes of four stages for operators and for pitch, after envelope.rs: one state for both, and `reshape`, true for an
-// operator's, where the Rust has a parameter of the type. An entry refuses a state with a stage above 3 (9) and a number
-// above its largest (6); every float is taken, NaN included. Its promise names the answer for every input. The functions
-// themselves, for callers that have checked their state, are in `inner`.
+// The envelopes' entries, after envelope.rs. An entry refuses a state with a stage above 3 (9) and a number above its
+// largest (6); every float is taken, NaN included. Its promise names the answer for every input: a refusal hands the
+// state back as it came, and 0.0 for a value. The functions themselves, for callers that have checked their state, are
+// in `envelope_inner`.
 ghost use mathlib.Core.Path.{_≡_};
-ghost use Rattle.envelope.specs.Envelope.{initialised};
-ghost use Rattle.envelope.specs.Answers.{allFit, operatorFits, pitchFits, operatorSetAnswer, pitchSetAnswer};
+ghost use Rattle.envelope.specs.Answers.{operatorFits, pitchFits, operatorSetAnswer, pitchSetAnswer};
 ghost use Rattle.envelope.specs.Answers.{renderAnswer, scrubAnswer, valueAnswer};
+pub use envelope_inner::Envelope;
+pub use envelope_inner::init;
 
-pub mod inner;
-
-pub struct Envelope {
-    pub stage: usize,
-    pub phase: f32,
-    pub start: f32,
-    pub increment: [f32; 4],
-    pub level: [f32; 4],
-    pub scale: f32,
-}
-
-// A number of document 01's table, with the state afterwards.
-pub struct Set {
+// What setting gives: the number, and the envelope.
+pub struct Prepared {
     pub number: u8,
     pub envelope: Envelope,
 }
 
-// And with the value there.
+// What a step gives: the number, the envelope, and its value there.
 pub struct Rendered {
     pub number: u8,
     pub envelope: Envelope,
     pub value: f32,
 }
 
-// A value, where the state does not change.
-pub struct Valued {
+// What a reader gives: the number, and the value.
+pub struct Read {
     pub number: u8,
     pub value: f32,
 }
 
-// At rest at the end of the last stage.
-pub fn init(scale: f32) -> Envelope
-    ensures { λ r. ⌜ r ≡ initialised scale ⌝ }
-{
-    let increment = [0.001, 0.001, 0.001, 0.001];
-    let level = [1.0, 0.5, 0.25, 0.0];
-    Envelope {
-        stage: 3,
-        phase: 1.0,
-        start: 0.0,
-        increment: increment,
-        level: level,
-        scale: scale,
-    }
-}
-
 // The value at a time after the gate opened, from the stages' durations alone: the scrub.
-pub fn render_at_sample(envelope: Envelope, reshape: bool, t: f32, gate_duration: f32) -> Valued
+pub fn render_at_sample(envelope: Envelope, reshape: bool, t: f32, gate_duration: f32) -> Read
     ensures { λ r. ⌜ r ≡ scrubAnswer reshape envelope t «gate_duration» ⌝ }
 {
     if envelope.stage > 3 {
-        return Valued {
+        return Read {
             number: 9,
             value: 0.0,
         };
     }
-    Valued {
+    Read {
         number: 0,
-        value: inner::render_at_sample(envelope, reshape, t, gate_duration),
+        value: envelope_inner::render_at_sample(envelope, reshape, t, gate_duration),
     }
 }
 
@@ -87,84 +61,78 @@ pub fn render(
             value: 0.0,
         };
     }
-    let q = inner::render(envelope, reshape, gate, rate, ad_scale, release_scale);
-    let rendered = inner::move_to(envelope, q.stage, q.phase, q.start);
+    let q = envelope_inner::render(envelope, reshape, gate, rate, ad_scale, release_scale);
+    let rendered = envelope_inner::move_to(envelope, q.stage, q.phase, q.start);
     Rendered {
         number: 0,
         envelope: rendered,
-        value: inner::current_value(rendered, reshape),
+        value: envelope_inner::current_value(rendered, reshape),
     }
 }
 
 // The value at a phase of a stage that starts at a level.
-pub fn value(
-    envelope: Envelope,
-    reshape: bool,
-    stage: usize,
-    phase: f32,
-    start_level: f32,
-) -> Valued
+pub fn value(envelope: Envelope, reshape: bool, stage: usize, phase: f32, start_level: f32) -> Read
     ensures { λ r. ⌜ r ≡ valueAnswer reshape envelope stage phase «start_level» ⌝ }
 {
     if envelope.stage > 3 {
-        return Valued {
+        return Read {
             number: 9,
             value: 0.0,
         };
     }
     if stage > 3 {
-        return Valued {
+        return Read {
             number: 6,
             value: 0.0,
         };
     }
-    Valued {
+    Read {
         number: 0,
-        value: inner::value(envelope, reshape, stage, phase, start_level),
+        value: envelope_inner::value(envelope, reshape, stage, phase, start_level),
     }
 }
 
 // An operator's rates, levels and global level.
-pub fn operator_set(envelope: Envelope, rate: [u8; 4], level: [u8; 4], global_level: u8) -> Set
+pub fn operator_set(envelope: Envelope, rate: [u8; 4], level: [u8; 4], global_level: u8) -> Prepared
     ensures { λ r. ⌜ r ≡ operatorSetAnswer envelope rate level «global_level» ⌝ }
 {
     if envelope.stage > 3 {
-        return Set {
+        return Prepared {
             number: 9,
             envelope: envelope,
         };
     }
     if !operator_fits(rate, level, global_level) {
-        return Set {
+        return Prepared {
             number: 6,
             envelope: envelope,
         };
     }
-    let set = inner::operator_set(envelope, rate, level, global_level);
-    Set {
+    let set = envelope_inner::operator_set(envelope, rate, level, global_level);
+    Prepared {
         number: 0,
         envelope: set,
     }
 }
 
 // The pitch's rates and levels.
-pub fn pitch_set(envelope: Envelope, rate: [u8; 4], level: [u8; 4]) -> Set
+pub fn pitch_set(envelope: Envelope, rate: [u8; 4], level: [u8; 4]) -> Prepared
     ensures { λ r. ⌜ r ≡ pitchSetAnswer envelope rate level ⌝ }
 {
     if envelope.stage > 3 {
-        return Set {
+        return Prepared {
             number: 9,
             envelope: envelope,
         };
     }
     if !pitch_fits(rate, level) {
-        return Set {
+        return Prepared {
             number: 6,
             envelope: envelope,
         };
     }
-    let set = inner::pitch_set(envelope, rate, level);
-    Set {
+    let set = envelope_inner::pitch_set(envelope, rate, level);
+    Prepared {
         number: 0,
         envelope: set,
     }
@@ -174,46 +142,12 @@ pub fn pitch_set(envelope: Envelope, rate: [u8; 4], level: [u8; 4]) -> Set
 fn operator_fits(rate: [u8; 4], level: [u8; 4], global_level: u8) -> bool
     ensures { λ r. ⌜ r ≡ operatorFits rate level «global_level» ⌝ }
 {
-    if !all_fit(rate) {
-        return false;
-    }
-    if !all_fit(level) {
-        return false;
-    }
-    if global_level > 127 {
-        return false;
-    }
-    true
+    pitch_fits(rate, level) & (global_level <= 127)
 }
 
-// Whether the pitch's are.
+// Whether rates and levels are.
 fn pitch_fits(rate: [u8; 4], level: [u8; 4]) -> bool
     ensures { λ r. ⌜ r ≡ pitchFits rate level ⌝ }
 {
-    if !all_fit(rate) {
-        return false;
-    }
-    if !all_fit(level) {
-        return false;
-    }
-    true
-}
-
-// Whether four rates or levels are at most 99.
-fn all_fit(numbers: [u8; 4]) -> bool
-    ensures { λ r. ⌜ r ≡ allFit numbers ⌝ }
-{
-    if numbers[0] > 99 {
-        return false;
-    }
-    if numbers[1] > 99 {
-        return false;
-    }
-    if numbers[2] > 99 {
-        return false;
-    }
-    if numbers[3] > 99 {
-        return false;
-    }
-    true
+    patch_limits::stages_fit(&rate) & patch_limits::stages_fit(&level)
 }

@@ -1,4 +1,5 @@
--- The levels and increments of an envelope's stages, after envelope.rs, with one rounding per written operation. Definitions only.
+-- The levels and increments of an envelope's stages, after envelope.rs, with one rounding per written operation.
+-- Definitions only, all to be believed.
 use mathlib.Core.Bool.{Bool, _&&_, cond}
 use mathlib.Core.List.{List, [], _∷_}
 use Prim.Native.Nat.{ℕ, _+_, _-_, _*_, _/_, _%_}
@@ -7,7 +8,8 @@ use lib.ListN.{getD}
 use lib.Ieee.{Float, nan, lt, eq, ne}
 use Rattle.numbers.specs.F32.{_⊖_, _⊗_, _⊘_, decimal, asFloat}
 use Rattle.numbers.specs.Extremes.{maximum, magnitude}
-use Rattle.dx_units_inner.specs.Units.{operatorLevel, operatorEnvelopeIncrement, pitchEnvelopeLevel, pitchEnvelopeIncrement}
+use Rattle.dx_units_inner.specs.Units.{operatorLevel, operatorEnvelopeIncrement}
+use Rattle.dx_units_inner.specs.Units.{pitchEnvelopeLevel, pitchEnvelopeIncrement}
 
 -- one number for each of the four stages
 abbrev pub perStage : (ℕ → Float) → List Float
@@ -17,13 +19,14 @@ perStage f = f 0 ∷ f 1 ∷ f 2 ∷ f 3 ∷ []
 abbrev pub levelBefore : List Float → ℕ → Float
 levelBefore levels stage = getD levels ((stage + 3) % 4) nan
 
--- an operator's rising segment jumps to this level
+-- the old chip's envelope jumps up to this level when it rises
 unfoldable pub jump : Float
 jump = decimal 67 1
 
 -- ---- operators
 
--- an eighth of the converted level, made even, plus the global level less 133; of a half where that is below 1
+-- an eighth of the converted level, made even, plus the global level less 133; of a half where that is below 1. 125
+-- might be expected in place of 133, which the Rust remarks and leaves
 unfoldable pub operatorStageLevel : ℕ → ℕ → Float
 operatorStageLevel level globalLevel =
     let scaled = operatorLevel level / 2 * 2 + globalLevel in
@@ -49,7 +52,8 @@ operatorLevels level globalLevel = perStage (λ i. operatorStageLevel (getD leve
 -- the first stage is fast where its level is 0
 unfoldable pub operatorIncrements : List ℕ → List Float → Bool → Float → List Float
 operatorIncrements rate levels fast scale =
-    perStage (λ i. operatorStageIncrement (getD rate i 0) (levelBefore levels i) (getD levels i nan) (eqb i 0 && fast) ⊗ scale)
+    perStage (λ i.
+    operatorStageIncrement (getD rate i 0) (levelBefore levels i) (getD levels i nan) (eqb i 0 && fast) ⊗ scale)
 
 -- ---- pitch
 

@@ -1,5 +1,5 @@
-// The levels and increments of an envelope's four stages from a patch's rates and levels, after envelope.rs: what setting
-// an envelope computes. Each function promises its definition.
+// The levels and increments of an envelope's four stages from a patch's rates and levels, after envelope.rs: what
+// setting an envelope computes. Each function promises its definition.
 ghost use mathlib.Core.Path.{_≡_};
 ghost use Rattle.envelope_stages.specs.Stages.{operatorStageLevel, risingIncrement, operatorStageIncrement};
 ghost use Rattle.envelope_stages.specs.Stages.{operatorLevels, operatorIncrements};
@@ -16,6 +16,8 @@ pub fn operator_levels(level: [u8; 4], global_level: u8) -> [f32; 4]
     ]
 }
 
+// In units of eight steps of the chip's level, which are a factor of 2 in amplitude. 133 is subtracted where one unit
+// less, 125, might be expected, as the Rust remarks; a level that falls below 1 step is half of one, so none is 0.
 fn operator_stage_level(level: u8, global_level: u8) -> f32
     ensures { λ r. ⌜ r ≡ operatorStageLevel level «global_level» ⌝ }
 {
@@ -26,6 +28,7 @@ fn operator_stage_level(level: u8, global_level: u8) -> f32
     0.125 * numbers::u32_as_f32(scaled - 133)
 }
 
+// Each stage's height is from the level before to its own; the first comes from the last.
 pub fn operator_increments(rate: [u8; 4], level: [f32; 4], fast: bool, scale: f32) -> [f32; 4]
     ensures { λ r. ⌜ r ≡ operatorIncrements rate level fast scale ⌝ }
 {
@@ -37,7 +40,8 @@ pub fn operator_increments(rate: [u8; 4], level: [f32; 4], fast: bool, scale: f3
     ]
 }
 
-// The increment of a plateau is scaled, and the attack's plateau is faster.
+// A falling stage's rate goes by its height. A plateau has none: it lasts as long as a fall by 1 / 0.6 would, and a
+// first stage whose level is 0 only a twentieth of that.
 fn operator_stage_increment(rate: u8, from: f32, to: f32, fast: bool) -> f32
     ensures { λ r. ⌜ r ≡ operatorStageIncrement rate from to fast ⌝ }
 {
@@ -54,7 +58,8 @@ fn operator_stage_increment(rate: u8, from: f32, to: f32, fast: bool) -> f32
     increment * (1.0 / (from - to))
 }
 
-// Because of the jump a rising stage might disappear, and because of its shape its rate is adjusted.
+// A rise starts at 6.7 at the lowest. Where that leaves no height, the stage is over at once; otherwise it is 7.2 times
+// as fast as a fall of its height, because it is bent.
 fn rising_increment(increment: f32, from: f32, to: f32) -> f32
     ensures { λ r. ⌜ r ≡ risingIncrement increment from to ⌝ }
 {
@@ -88,6 +93,7 @@ pub fn pitch_increments(rate: [u8; 4], level: [f32; 4], scale: f32) -> [f32; 4]
     ]
 }
 
+// By the height, as an operator's fall; a plateau has one rate for all patches, but for the last stage.
 fn pitch_stage_increment(rate: u8, from: f32, to: f32, last: bool) -> f32
     ensures { λ r. ⌜ r ≡ pitchStageIncrement rate from to last ⌝ }
 {

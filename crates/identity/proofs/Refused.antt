@@ -17,8 +17,7 @@ use Rattle.algorithms.specs.Chain.{lastOperator, unmet, ends, grown, reused, ch
 use Rattle.algorithms.specs.Plan.{callOf, reading, ready, unready, extended, planFrom, counted, planned}
 use Rattle.algorithms.specs.Table.{six, tabled, rowOf, withRow, compiled}
 use Rattle.algorithms_opcodes.specs.Opcodes.{sixOperators}
-use Rattle.envelope.specs.Envelope.{initialised}
-use Rattle.envelope.specs.Answers.{allStages}
+use Rattle.envelope_inner.specs.Envelope.{initialised, allStages}
 use Rattle.lfo.specs.declared.Lfo.{Lfo}
 use Rattle.lfo.specs.Lfo.{freshLfo, adjusted}
 use Rattle.lfo.specs.Answers as lfo

@@ -1,9 +1,9 @@
 // The judge's entries 58 to 5f (hex, docs/ORACLE.md): the crate `envelope`. An answer stands from place 5 on. An
 // envelope is its stage in four bytes and eleven floats.
-use envelope::Envelope;
+use envelope::Prepared;
+use envelope::Read;
 use envelope::Rendered;
-use envelope::Set;
-use envelope::Valued;
+use envelope_inner::Envelope;
 
 // The length of a call of the entry; 0 for no entry of this group.
 pub fn length(entry: u8) -> usize {
@@ -51,7 +51,7 @@ fn set(entry: u8, s: &[u8], registers: &mut [u8], out: &mut [u8]) -> usize {
 }
 
 // Set to the rates and levels in eight bytes.
-fn set_to(entry: u8, envelope: Envelope, b: [u8; 8], global_level: u8) -> Set {
+fn set_to(entry: u8, envelope: Envelope, b: [u8; 8], global_level: u8) -> Prepared {
     let rate = [b[0], b[1], b[2], b[3]];
     let level = [b[4], b[5], b[6], b[7]];
     if entry == 0x5a {
@@ -77,7 +77,7 @@ fn rendered(s: &[u8], envelope: Envelope) -> Rendered {
     envelope::render(envelope, reshape, gate, rate, ad_scale, release_scale)
 }
 
-fn valued(entry: u8, s: &[u8], envelope: Envelope) -> Valued {
+fn valued(entry: u8, s: &[u8], envelope: Envelope) -> Read {
     let reshape = judge_wire::byte(s, 1) != 0;
     if entry == 0x5d {
         return envelope::render_at_sample(
@@ -97,7 +97,7 @@ fn valued(entry: u8, s: &[u8], envelope: Envelope) -> Valued {
     )
 }
 
-fn put_value(out: &mut [u8], x: Valued) -> usize {
+fn put_value(out: &mut [u8], x: Read) -> usize {
     let a = judge_wire::put_byte(out, 5, x.number);
     judge_wire::put_float(out, a, x.value)
 }

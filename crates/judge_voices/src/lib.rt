@@ -3,7 +3,7 @@
 ghost use Prim.Native.Nat.{_≤_};
 use algorithms::Plan;
 use dx_units_inner::Ratio;
-use envelope::Envelope;
+use envelope_inner::Envelope;
 use operator::Feedback;
 use operator::Operator;
 use patch::Patch;

@@ -29,10 +29,10 @@ use Rattle.algorithms.specs.Chain as chain
 use Rattle.algorithms.specs.Opcode.{destination, adding, source, flagged, modulating}
 use Rattle.algorithms.specs.Plan.{callOf, reading, ready, unready, extended, planFrom, counted, planned, sameCall, sameCalls, samePlan, isPlanOf}
 use Rattle.algorithms.specs.Table.{six, tabled, rowOf, withRow, compiled}
-use Rattle.envelope.specs.Envelope.{initialised, previousLevel, startOf, line, segment, valueAt, currentValue, gated, steppedPhase, advanced}
-use Rattle.envelope.specs.Envelope as envelope
-use Rattle.envelope.specs.Answers.{allStages}
-use Rattle.envelope.specs.Set.{operatorSet, pitchSet}
+use Rattle.envelope_inner.specs.Envelope.{initialised, allStages, previousLevel, startOf, line, segment, valueAt, currentValue}
+use Rattle.envelope_inner.specs.Envelope.{gated, steppedPhase, advanced}
+use Rattle.envelope_inner.specs.Envelope as envelope
+use Rattle.envelope_inner.specs.Set.{operatorSet, pitchSet}
 use Rattle.envelope_stages.specs.Stages.{jump, operatorStageLevel, risingIncrement, operatorStageIncrement, operatorLevels, operatorIncrements, pitchStageIncrement, pitchLevels, pitchIncrements}
 use Rattle.operator.specs.Chain.{entered, kept, through, allMoved, heard, next, ended, written}
 use Rattle.operator.specs.Sample.{still, rampScale, feedbackScale, laneOf, operatorOf, moved, fed, pushed, mixed}

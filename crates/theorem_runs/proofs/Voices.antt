@@ -20,9 +20,8 @@ use Rattle.algorithms.specs.Chain.{rendered}
 use Rattle.algorithms.specs.Plan.{callOf, noPlan, ready, unready, extended, refusal, planFrom, counted, planned, samePlan, isPlanOf}
 use Rattle.algorithms.specs.Table.{tabled, rowOf, withRow, compiled}
 use Rattle.algorithms.proofs.Same.{same-plan-self}
-use Rattle.envelope.specs.Answers.{isStage, allStages}
-use Rattle.envelope.specs.Envelope.{initialised}
-use Rattle.envelope.specs.Set.{operatorSet, pitchSet}
+use Rattle.envelope_inner.specs.Envelope.{initialised, isStage, allStages}
+use Rattle.envelope_inner.specs.Set.{operatorSet, pitchSet}
 use Rattle.voice_setup.specs.declared.Setup.{Setup}
 use Rattle.voice_setup.specs.Setup.{operatorSetUp, putAt, setUpTo}
 use Rattle.voice_levels.proofs.Stages.{stage-at-fits, set-keeps-stages, leveled-keeps-stages, followed-stage}

@@ -11,7 +11,7 @@ use Rattle.patch.specs.Packed.{patchFits}
 use Rattle.algorithms.specs.declared.Plan.{Plan}
 use Rattle.algorithms.specs.Plan.{counted, planned, samePlan, isPlanOf}
 use Rattle.algorithms.proofs.Same.{same-plan-equal}
-use Rattle.envelope.specs.Answers.{isStage, allStages}
+use Rattle.envelope_inner.specs.Envelope.{isStage, allStages}
 use Rattle.voice.specs.declared.Voice.{Voice}
 use Rattle.voice.specs.Answers.{patchSound, stateFits}
 

@@ -8,8 +8,8 @@ use borrow.Author.Tests.{not-true, not-false}
 use lib.Dec.{leb}
 use lib.ListN.{length}
 use mathlib.Core.Bool.{_&&_, and-assoc, and-true}
-use Rattle.envelope.specs.declared.Envelope.{Envelope}
-use Rattle.envelope.specs.Answers.{allStages}
+use Rattle.envelope_inner.specs.declared.Envelope.{Envelope}
+use Rattle.envelope_inner.specs.Envelope.{allStages}
 use Rattle.patch.specs.declared.Patch.{Patch}
 use Rattle.patch.specs.Packed.{patchFits, checkOf}
 use Rattle.voice_setup.specs.Setup.{envelopeAt}

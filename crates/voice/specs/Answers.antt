@@ -11,7 +11,7 @@ use Rattle.algorithms.specs.declared.Plan.{Plan}
 use Rattle.algorithms.specs.declared.Compiled.{Compiled}
 use Rattle.algorithms.specs.Plan.{counted, isPlanOf}
 use Rattle.algorithms.specs.Table.{compiled}
-use Rattle.envelope.specs.Answers.{isStage, allStages}
+use Rattle.envelope_inner.specs.Envelope.{isStage, allStages}
 use Rattle.voice.specs.declared.Voice.{Voice}
 use Rattle.voice.specs.declared.Prepared.{Prepared}
 use Rattle.voice.specs.declared.Loaded.{Loaded}

@@ -10,8 +10,8 @@ use Rattle.patch.specs.Form.{zeroPatch}
 use Rattle.algorithms.specs.declared.Plan.{Plan}
 use Rattle.algorithms.specs.Plan.{noPlan}
 use Rattle.algorithms.specs.Table.{six}
-use Rattle.envelope.specs.declared.Envelope.{Envelope}
-use Rattle.envelope.specs.Envelope.{initialised}
+use Rattle.envelope_inner.specs.declared.Envelope.{Envelope}
+use Rattle.envelope_inner.specs.Envelope.{initialised}
 use Rattle.operator.specs.declared.Operator.{Operator}
 use Rattle.operator.specs.declared.Feedback.{Feedback}
 use Rattle.operator.specs.Sample.{still}

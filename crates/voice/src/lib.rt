@@ -2,13 +2,13 @@
 // 01's order (starting 2, 5; setting a patch 9, 6, 2, 3, 4; taking it out 9), and its promise names the answer for
 // every input: a refusal hands back the voice as it came. `voice_render` has its blocks.
 ghost use mathlib.Core.Path.{_≡_};
-ghost use Rattle.envelope.specs.Answers.{allStages};
+ghost use Rattle.envelope_inner.specs.Envelope.{allStages};
 ghost use Rattle.voice.specs.Voice.{voiceWith, withPatch};
 ghost use Rattle.voice.specs.Answers.{patchSound, stateFits, initAnswer, loaded, setPatchAnswer, takePatchAnswer};
 use algorithms::Compiled;
 use algorithms::Plan;
 use dx_units_inner::Ratio;
-use envelope::Envelope;
+use envelope_inner::Envelope;
 use operator::Feedback;
 use operator::Operator;
 use patch::Patch;
@@ -53,7 +53,7 @@ fn voice_with(operators: usize, sample_rate: f32, one_hz: f32, a0: f32) -> Voice
     ensures { λ r. ⌜ r ≡ voiceWith operators «sample_rate» «one_hz» a0 ⌝ }
 {
     // Envelope increments are written for 44,100 Hz, whatever the rate: the older instrument's.
-    let e = envelope::init(44100.0 * one_hz);
+    let e = envelope_inner::init(44100.0 * one_hz);
     let o = Operator::new();
     let t = Tuned {
         ratio: Ratio::Note(0.0),

@@ -8,8 +8,8 @@ use lib.ListN.{getD, set}
 use lib.Ieee.{Float, nan}
 use Rattle.numbers.specs.F32.{_⊕_, _⊗_}
 use Rattle.dx_units_inner.specs.Units.{rateScaling, stepFor}
-use Rattle.envelope.specs.declared.Envelope.{Envelope}
-use Rattle.envelope.specs.Envelope.{movedTo}
+use Rattle.envelope_inner.specs.declared.Envelope.{Envelope}
+use Rattle.envelope_inner.specs.Envelope.{movedTo}
 use Rattle.patch.specs.declared.Operator.{Operator}
 use Rattle.patch.specs.Form.{operatorAt}
 use Rattle.voice_setup.specs.declared.Tuned.{Tuned}

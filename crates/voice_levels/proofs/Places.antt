@@ -3,10 +3,10 @@ use mathlib.Core.Path.{_≡_, ap}
 use mathlib.Core.Bool.{Bool, false}
 use Prim.Native.Nat.{_≤_}
 use lib.Ieee.{Float}
-use Rattle.envelope.specs.declared.Envelope.{Envelope}
-use Rattle.envelope.specs.declared.inner.Position.{Position}
-use Rattle.envelope.specs.Envelope.{levelValue, valueAt, currentValue, standing, rendered}
-use Rattle.envelope.proofs.Laws.{rendered-stage}
+use Rattle.envelope_inner.specs.declared.Envelope.{Envelope}
+use Rattle.envelope_inner.specs.declared.Position.{Position}
+use Rattle.envelope_inner.specs.Envelope.{levelValue, valueAt, currentValue, standing, rendered}
+use Rattle.envelope_inner.proofs.Laws.{rendered-stage}
 use Rattle.voice_levels.specs.declared.Timing.{Timing}
 use Rattle.voice_levels.specs.declared.Followed.{Followed}
 use Rattle.voice_levels.specs.Levels.{followed, taken}

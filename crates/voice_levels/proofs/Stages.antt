@@ -8,9 +8,9 @@ use lib.Dec.{T, le→leb, leb→le}
 use lib.ListN.{getD, set}
 use lib.Ieee.{Float, nan}
 use lib.Ieee.Fits.{and-l, and-r, and-i}
-use Rattle.envelope.specs.declared.Envelope.{Envelope}
-use Rattle.envelope.specs.Answers.{isStage, allStages}
-use Rattle.envelope.proofs.Laws.{rendered-stage}
+use Rattle.envelope_inner.specs.declared.Envelope.{Envelope}
+use Rattle.envelope_inner.specs.Envelope.{isStage, allStages}
+use Rattle.envelope_inner.proofs.Laws.{rendered-stage}
 use Rattle.patch.specs.declared.Operator.{Operator}
 use Rattle.patch.specs.Form.{operatorAt}
 use Rattle.voice_setup.specs.declared.Tuned.{Tuned}

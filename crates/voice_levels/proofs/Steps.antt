@@ -5,7 +5,7 @@ use Prim.Native.Nat.{ℕ, zero, suc, _≤_, _<_}
 use native.Mathlib.Omega.{arith}
 use lib.ListN.{getD, set}
 use lib.Ieee.{Float, nan}
-use Rattle.envelope.specs.declared.Envelope.{Envelope}
+use Rattle.envelope_inner.specs.declared.Envelope.{Envelope}
 use Rattle.patch.specs.declared.Operator.{Operator}
 use Rattle.patch.specs.Form.{operatorAt}
 use Rattle.voice_setup.specs.declared.Tuned.{Tuned}

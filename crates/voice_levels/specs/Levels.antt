@@ -13,9 +13,9 @@ use Rattle.dx_units_power.specs.Pow.{pow2Fast}
 use Rattle.dx_units_inner.specs.Units.{rateScaling, keyboardScaling, ampModSensitivity, stepFor}
 use Rattle.dx_units_inner.specs.declared.Ratio.{Ratio}
 use Rattle.dx_units_inner.specs.declared.Ratio.the-variants.{Note, Hertz}
-use Rattle.envelope.specs.declared.Envelope.{Envelope}
-use Rattle.envelope.specs.Envelope.{movedTo, rendered, currentValue}
-use Rattle.envelope.specs.Scrub.{scrubbed}
+use Rattle.envelope_inner.specs.declared.Envelope.{Envelope}
+use Rattle.envelope_inner.specs.Envelope.{movedTo, rendered, currentValue}
+use Rattle.envelope_inner.specs.Scrub.{scrubbed}
 use Rattle.patch.specs.declared.Operator.{Operator}
 use Rattle.patch.specs.Form.{operatorAt}
 use Rattle.algorithms.specs.Opcode.{modulating}

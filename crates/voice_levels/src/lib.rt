@@ -3,14 +3,14 @@
 ghost use mathlib.Core.Path.{_≡_};
 ghost use Prim.Native.Nat.{_≤_};
 ghost use lib.Dec.{T};
-ghost use Rattle.envelope.specs.Answers.{allStages};
+ghost use Rattle.envelope_inner.specs.Envelope.{allStages};
 ghost use Rattle.patch.specs.Packed.{operatorsFit};
 ghost use Rattle.voice_levels.specs.Levels.{timingFor, followed, noteFrequency, frequencyOf, scalingOf};
 ghost use Rattle.voice_levels.specs.Levels.{levelModOf, amplitudeOf};
 ghost use Rattle.voice_levels.specs.Levels.{brightnessOf, taken, raised, raisedTo, raisedBy, amplitudesTo};
 ghost use Rattle.voice_levels.specs.Levels.{leveledTo};
 use dx_units_inner::Ratio;
-use envelope::Envelope;
+use envelope_inner::Envelope;
 use voice_setup::Tuned;
 
 // What is left of a level where there is no amplitude modulation: 1 less the power of -6.4.
@@ -102,7 +102,7 @@ pub fn follow(t: Timing, reshape: bool, rate: f32, e: Envelope) -> Followed
     ensures { λ r. ⌜ r ≡ followed t reshape rate e ⌝ }
 {
     let p = place(t, reshape, rate, e);
-    let envelope = envelope::inner::move_to(e, p.stage, p.phase, p.start);
+    let envelope = envelope_inner::move_to(e, p.stage, p.phase, p.start);
     Followed {
         envelope,
         value: p.value,
@@ -115,7 +115,7 @@ fn place(t: Timing, reshape: bool, rate: f32, e: Envelope) -> Placed
     ensures { λ r. ⌜ taken e r ≡ followed t reshape rate e ⌝ }
 {
     if t.sustain {
-        let value = envelope::inner::render_at_sample(
+        let value = envelope_inner::render_at_sample(
             e,
             reshape,
             t.envelope_sample,
@@ -128,9 +128,9 @@ fn place(t: Timing, reshape: bool, rate: f32, e: Envelope) -> Placed
             value,
         };
     }
-    let q = envelope::inner::render(e, reshape, t.gate, rate, t.ad_scale, t.release_scale);
+    let q = envelope_inner::render(e, reshape, t.gate, rate, t.ad_scale, t.release_scale);
     let level = e.level;
-    let value = envelope::inner::value_at(level, reshape, q.stage, q.phase, q.start);
+    let value = envelope_inner::value_at(level, reshape, q.stage, q.phase, q.start);
     Placed {
         stage: q.stage,
         phase: q.phase,
@@ -262,7 +262,7 @@ fn raise_operators(
         let tuned = ratios[i];
         let e = operator_envelope[i];
         let one = raise_operator(g, o, tuned, level_headroom[i], row[i], e);
-        let envelope = envelope::inner::move_to(e, one.stage, one.phase, one.start);
+        let envelope = envelope_inner::move_to(e, one.stage, one.phase, one.start);
         l.operator_envelope[i] = envelope;
         l.steps[i] = one.step;
         l.amplitudes[i] = one.level;

@@ -17,8 +17,8 @@ use Rattle.patch.specs.declared.Patch.{Patch}
 use Rattle.patch.specs.Packed.{patchFits, operatorsFit, stagesFit, modulationsFit, nameFits}
 use Rattle.patch_limits.proofs.Within.{patch-fits}
 use Rattle.algorithms.specs.Plan.{counted}
-use Rattle.envelope.specs.declared.Envelope.{Envelope}
-use Rattle.envelope.specs.Set.{pitchSet}
+use Rattle.envelope_inner.specs.declared.Envelope.{Envelope}
+use Rattle.envelope_inner.specs.Set.{pitchSet}
 use Rattle.operator.specs.declared.Operator.{Operator}
 use Rattle.voice_block.specs.declared.Operators.{Operators}
 use Rattle.voice_block.specs.Calls.{ran}

@@ -12,7 +12,7 @@ ghost use Rattle.voice.specs.Answers.{stateFits};
 ghost use Rattle.voice_render.specs.Setup.{withSetup, setUp};
 ghost use Rattle.voice_render.specs.Block.{noteOn, struck, begun, restarted, entering, after, sounded};
 ghost use Rattle.voice_render.specs.Answers.{blockFits, parametersFit, renderAnswer};
-use envelope::Envelope;
+use envelope_inner::Envelope;
 use operator::Operator;
 use voice::Voice;
 use voice_block::Operators;
@@ -96,7 +96,7 @@ fn setup(high: &[f32; 256], low: &[f32; 256], v: Voice) -> Voice
     let rate = stages.rate;
     let level = stages.level;
     let e = v.pitch_envelope;
-    let pitch = envelope::inner::pitch_set(e, rate, level);
+    let pitch = envelope_inner::pitch_set(e, rate, level);
     let operator_envelope = v.operator_envelope;
     let ratios = v.ratios;
     let level_headroom = v.level_headroom;

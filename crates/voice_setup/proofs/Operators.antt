@@ -12,8 +12,8 @@ use lib.Ieee.{Float}
 use lib.Ieee.Fits.{and-l, and-r}
 use Rattle.dx_units_inner.specs.declared.Ratio.{Ratio}
 use Rattle.dx_units_inner.specs.Units.{operatorLevel, frequencyRatio}
-use Rattle.envelope.specs.declared.Envelope.{Envelope}
-use Rattle.envelope.specs.Set.{operatorSet}
+use Rattle.envelope_inner.specs.declared.Envelope.{Envelope}
+use Rattle.envelope_inner.specs.Set.{operatorSet}
 use Rattle.patch.specs.declared.Operator.{Operator}
 use Rattle.patch.specs.Layout.{Field, Fine, operatorField, envelopeNames, scalingNames, operatorNames}
 use Rattle.patch.specs.Form.{operatorNumber, operatorAt}

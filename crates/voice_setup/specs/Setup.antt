@@ -5,8 +5,8 @@ use lib.ListN.{getD, set}
 use lib.Ieee.{Float, nan}
 use Rattle.numbers.specs.F32.{asFloat}
 use Rattle.dx_units_inner.specs.Units.{operatorLevel, frequencyRatio}
-use Rattle.envelope.specs.declared.Envelope.{Envelope}
-use Rattle.envelope.specs.Set.{operatorSet}
+use Rattle.envelope_inner.specs.declared.Envelope.{Envelope}
+use Rattle.envelope_inner.specs.Set.{operatorSet}
 use Rattle.patch.specs.declared.Operator.{Operator}
 use Rattle.patch.specs.Form.{operatorAt}
 use Rattle.voice_setup.specs.declared.OperatorSetup.{OperatorSetup}

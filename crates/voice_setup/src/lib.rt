@@ -6,7 +6,7 @@ ghost use lib.Dec.{T};
 ghost use Rattle.patch.specs.Packed.{operatorFits, operatorsFit};
 ghost use Rattle.voice_setup.specs.Setup.{headroomOf, operatorSetUp, setUpTo};
 use dx_units_inner::Ratio;
-use envelope::Envelope;
+use envelope_inner::Envelope;
 
 // A frequency ratio, as an element of an array.
 pub struct Tuned {
@@ -49,7 +49,7 @@ fn operator_setup(
     let stages = op.envelope;
     let rate = stages.rate;
     let levels = stages.level;
-    let envelope = envelope::inner::operator_set(e, rate, levels, level);
+    let envelope = envelope_inner::operator_set(e, rate, levels, level);
     let level_headroom = headroom(level);
     let ratio = dx_units_inner::frequency_ratio(high, low, op.mode, op.coarse, op.fine, op.detune);
     OperatorSetup {

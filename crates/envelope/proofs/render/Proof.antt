@@ -4,7 +4,7 @@ use borrow.Author.Tests.{lt-leb, le-leb}
 use lib.Ieee.{round, ofBits}
 use Rattle.numbers.specs.F32.{decimal}
 use Rattle.envelope.specs.Answers.{renderAnswer}
-use Rattle.envelope.proofs.Laws.{rendered-stage}
+use Rattle.envelope_inner.proofs.Laws.{rendered-stage}
 use borrow.Author.Needs.{needs}
 use Rattle.envelope.proofs.render.Statement.{statement}
 use Rattle.envelope.proofs.render.Tie as tie

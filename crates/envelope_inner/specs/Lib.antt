@@ -1,0 +1,4 @@
+-- the definitions that the contracts cite
+pub mod Envelope
+pub mod Set
+pub mod Scrub
