@@ -18,8 +18,8 @@ use Rattle.algorithms.specs.Plan.{callOf, reading, ready, unready, extended, pl
 use Rattle.algorithms.specs.Table.{six, tabled, rowOf, withRow, compiled}
 use Rattle.algorithms_opcodes.specs.Opcodes.{sixOperators}
 use Rattle.envelope_inner.specs.Envelope.{initialised, allStages}
-use Rattle.lfo.specs.declared.Lfo.{Lfo}
-use Rattle.lfo.specs.Lfo.{freshLfo, adjusted}
+use Rattle.lfo_inner.specs.declared.Lfo.{Lfo}
+use Rattle.lfo_inner.specs.Lfo.{freshLfo, adjusted}
 use Rattle.lfo.specs.Answers as lfo
 use Rattle.voice.specs.declared.Voice.{Voice}
 use Rattle.voice.specs.Voice.{voiceWith, freshVoice}

@@ -9,7 +9,7 @@ ghost use lib.Dec.{eqb};
 ghost use Rattle.identity.specs.Hash.{hashedByte, hashedWord, hashedSamples};
 ghost use Rattle.identity.specs.Identity.{readied, parametersOf, setUpFor, blockPlayed, blocksPlayed, notePlayed};
 ghost use Rattle.identity.specs.Identity.{notesPlayed, identityOf};
-use lfo::Lfo;
+use lfo_inner::Lfo;
 use patch::Patch;
 use voice::Voice;
 use voice_render::VoiceParameters;

@@ -18,11 +18,11 @@ use borrow.Author.Tests.{eqb-true, eqb-false, ne-eqb}
 use Rattle.numbers.specs.F32.{_⊕_, _⊖_, _⊗_, _⊘_, decimal}
 use Rattle.dx_units_inner.specs.Units.{lfoFrequency, lfoSteps}
 use Rattle.patch.specs.declared.ModulationParameters.{ModulationParameters}
-use Rattle.lfo.specs.declared.Lfo.{Lfo}
-use Rattle.lfo.specs.declared.Moved.{Moved}
-use Rattle.lfo.specs.Lfo.{movedTo, valued, adjusted, restarted, wrapped, stepped, scrubbed, settled}
+use Rattle.lfo_inner.specs.declared.Lfo.{Lfo}
+use Rattle.lfo_inner.specs.declared.Motion.{Motion}
+use Rattle.lfo_inner.specs.Lfo.{movedTo, valued, adjusted, restarted, wrapped, stepped, scrubbed, settled}
 use Rattle.patch_limits.specs.Ranges.{sampleRateFits}
-use Rattle.lfo.specs.Answers.{fromZero, stateFits, stepFits, scrubFits, notMoved, stepAnswer, scrubAnswer}
+use Rattle.lfo.specs.Answers.{fromZero, stateFits, stepFits, scrubFits, moved, notMoved, moveAnswer, stepAnswer, scrubAnswer}
 use Rattle.lfo.specs.Played.{oneHzFits}
 use Rattle.lfo.proofs.Phases.{FromZero, plus, is-from-zero, under-from-zero, from-zero-le, from-zero-finite, Part, is-part, part-from-zero, part-below-one, parts-add, sum-wraps, product-at-least, below-power, when-finite, past-whole}
 
@@ -44,7 +44,7 @@ accepted-with lfo p f =
     (to-from-zero (lfo .frequency) f)
 
 -- the stored value counts for nothing
-settled-accepted : (lut : List Float) (m : Moved) → T (stateFits (m .lfo)) → T (stateFits (settled lut m .lfo))
+settled-accepted : (lut : List Float) (m : Motion) → T (stateFits (m .lfo)) → T (stateFits (settled lut m .lfo))
 unfolding settled valued stateFits
 settled-accepted lut m t = t
 
@@ -96,16 +96,17 @@ module _ (lfo : Lfo) (t : T (stateFits lfo)) where
     scrub-leaves-accepted sample s = accepted-with (scrubbed lfo state sample .lfo) (scrub-part sample s) (from-zero (lfo .frequency) frequency-fits)
 
     -- the whole answers, the refusal 7 included
-    answered : (lut : List Float) (m : Moved) (b : Bool) → (T b → T (stateFits (m .lfo))) → T (stateFits (cond b (settled lut m) (notMoved 7 lfo state) .lfo))
+    answered : (lut : List Float) (m : Motion) (b : Bool) → (T b → T (stateFits (m .lfo)))
+        → T (stateFits (cond b (moved (settled lut m)) (notMoved 7 lfo state) .lfo))
     answered lut m true k = settled-accepted lut m (k tt)
     answered lut m false k = t
 
     pub step-keeps-accepted : (lut : List Float) (scale : Float) → T (fits binary32 (lfo .phase)) → T (stateFits (stepAnswer lut lfo state scale .lfo))
-    unfolding stepAnswer
+    unfolding stepAnswer moveAnswer
     step-keeps-accepted lut scale f = rw (is-true (stateFits lfo) t) (answered lut (stepped lfo state scale) (stepFits lfo scale) (step-leaves-accepted scale f))
 
     pub scrub-keeps-accepted : (lut : List Float) (sample : Float) → T (stateFits (scrubAnswer lut lfo state sample .lfo))
-    unfolding scrubAnswer
+    unfolding scrubAnswer moveAnswer
     scrub-keeps-accepted lut sample = rw (is-true (stateFits lfo) t) (answered lut (scrubbed lfo state sample) (scrubFits lfo sample) (scrub-leaves-accepted sample))
 
   pub reset-leaves-accepted : T (stateFits (restarted lfo))

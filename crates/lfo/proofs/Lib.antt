@@ -1,5 +1,5 @@
+-- the laws of the answers and of sequences of calls
 pub mod Tests
-pub mod Motion
 pub mod Fields
 pub mod Phases
 pub mod Accepted

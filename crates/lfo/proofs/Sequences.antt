@@ -11,11 +11,11 @@ use lib.Ieee.Fits.{and-i}
 use Rattle.numbers.specs.F32.{decimal}
 use Rattle.patch.specs.declared.ModulationParameters.{ModulationParameters}
 use Rattle.patch.specs.Packed.{modulationsFit}
-use Rattle.lfo.specs.declared.Lfo.{Lfo}
-use Rattle.lfo.specs.declared.Moved.{Moved}
-use Rattle.lfo.specs.Lfo.{freshLfo, adjusted, movedTo, valued, restarted, stepped, scrubbed, settled}
+use Rattle.lfo_inner.specs.declared.Lfo.{Lfo}
+use Rattle.lfo_inner.specs.declared.Motion.{Motion}
+use Rattle.lfo_inner.specs.Lfo.{freshLfo, adjusted, movedTo, valued, restarted, stepped, scrubbed, settled}
 use Rattle.patch_limits.specs.Ranges.{sampleRateFits}
-use Rattle.lfo.specs.Answers.{fromZero, stateFits, stepFits, scrubFits, prepared, notMoved, initAnswer, setAnswer, resetAnswer, stepAnswer, scrubAnswer, readAnswer, valueAnswer, delayRampAnswer, pitchModAnswer, ampModAnswer}
+use Rattle.lfo.specs.Answers.{fromZero, stateFits, stepFits, scrubFits, prepared, moved, notMoved, initAnswer, setAnswer, resetAnswer, moveAnswer, stepAnswer, scrubAnswer, readAnswer, valueAnswer, delayRampAnswer, pitchModAnswer, ampModAnswer}
 use Rattle.lfo.specs.Played.{Call, Set, Reset, Step, Scrub, Value, DelayRamp, PitchMod, AmpMod, numberOf, answerTo, lfoAfter, stateAfter, Played, played, noneIsNine, Valid}
 use Rattle.lfo.proofs.Fields.{rate-fits}
 use Rattle.lfo.proofs.Accepted.{step-leaves-accepted, scrub-leaves-accepted, reset-leaves-accepted, set-leaves-accepted, step-phase-fits, scrub-phase-fits, reset-phase-fits, frequency-product, init-one-hz}
@@ -60,13 +60,14 @@ module _ (lfo : Lfo) (s : Valid lfo) where
   reset-good = rw (is-true (stateFits lfo) (s .accepted)) (restarted-valid, tt)
 
   -- a motion that leaves a valid LFO, with its value stored, or the refusal 7
-  moved-good : (lut : List Float) (state : ℕ) (m : Moved) (b : Bool) → m .number ≡ 0 → (T b → Valid (m .lfo))
-      → Good (cond b (settled lut m) (notMoved 7 lfo state) .lfo) (cond b (settled lut m) (notMoved 7 lfo state) .number)
+  moved-good : (lut : List Float) (state : ℕ) (m : Motion) (b : Bool) → (T b → Valid (m .lfo))
+      → let answer = cond b (moved (settled lut m)) (notMoved 7 lfo state) in
+      Good (answer .lfo) (answer .number)
   unfolding settled valued stateFits
-  moved-good lut state m true e f =
+  moved-good lut state m true f =
       let r = f tt in
-      (record { accepted = r .accepted; phaseFits = r .phaseFits; rateFits = r .rateFits }, subst (λ (n : ℕ). T (not (eqb n 9))) (sym e) tt)
-  moved-good lut state m false e f = (s, tt)
+      (record { accepted = r .accepted; phaseFits = r .phaseFits; rateFits = r .rateFits }, tt)
+  moved-good lut state m false f = (s, tt)
 
   module _ (lut : List Float) (state : ℕ) where
     stepped-valid : (scale : Float) → T (stepFits lfo scale) → Valid (stepped lfo state scale .lfo)
@@ -77,10 +78,10 @@ module _ (lfo : Lfo) (s : Valid lfo) where
     }
 
     step-good : (scale : Float) → Good (stepAnswer lut lfo state scale .lfo) (stepAnswer lut lfo state scale .number)
-    unfolding stepAnswer
+    unfolding stepAnswer moveAnswer
     step-good scale =
         rw (is-true (stateFits lfo) (s .accepted))
-        (moved-good lut state (stepped lfo state scale) (stepFits lfo scale) (unfold stepped in refl) (stepped-valid scale))
+        (moved-good lut state (stepped lfo state scale) (stepFits lfo scale) (stepped-valid scale))
 
     scrubbed-valid : (sample : Float) → T (scrubFits lfo sample) → Valid (scrubbed lfo state sample .lfo)
     scrubbed-valid sample t = record {
@@ -90,10 +91,10 @@ module _ (lfo : Lfo) (s : Valid lfo) where
     }
 
     scrub-good : (sample : Float) → Good (scrubAnswer lut lfo state sample .lfo) (scrubAnswer lut lfo state sample .number)
-    unfolding scrubAnswer
+    unfolding scrubAnswer moveAnswer
     scrub-good sample =
         rw (is-true (stateFits lfo) (s .accepted))
-        (moved-good lut state (scrubbed lfo state sample) (scrubFits lfo sample) (unfold scrubbed in refl) (scrubbed-valid sample))
+        (moved-good lut state (scrubbed lfo state sample) (scrubFits lfo sample) (scrubbed-valid sample))
 
     read-number : (value : Float) → T (not (eqb (readAnswer lfo value .number) 9))
     unfolding readAnswer

@@ -1,4 +1,5 @@
--- What each entry of the LFO answers: document 01's refusals in its order, then the LFO's own work. Definitions only.
+-- What each entry of the LFO answers: document 01's refusals in its order, then the LFO's own work. A refusal hands
+-- back the state and the generator's number as they came, and 0.0 for a value. Definitions only.
 use mathlib.Core.Bool.{Bool, _&&_, cond}
 use mathlib.Core.List.{List}
 use Prim.Native.Nat.{ℕ}
@@ -8,13 +9,15 @@ use Rattle.numbers.specs.F32.{_⊗_, _⊘_, decimal}
 use Rattle.patch.specs.declared.ModulationParameters.{ModulationParameters}
 use Rattle.patch.specs.Packed.{modulationsFit}
 use Rattle.patch_limits.specs.Ranges.{sampleRateFits}
-use Rattle.lfo.specs.declared.Lfo.{Lfo}
+use Rattle.lfo_inner.specs.declared.Lfo.{Lfo}
+use Rattle.lfo_inner.specs.declared.Motion.{Motion}
+use Rattle.lfo_inner.specs.Lfo.{freshLfo, adjusted, restarted, stepped, scrubbed, settled}
+use Rattle.lfo_inner.specs.Lfo.{waveAt, rampOf, pitchModOf, ampModOf}
 use Rattle.lfo.specs.declared.Prepared.{Prepared}
 use Rattle.lfo.specs.declared.Moved.{Moved}
 use Rattle.lfo.specs.declared.Read.{Read}
-use Rattle.lfo.specs.Lfo.{freshLfo, adjusted, restarted, stepped, scrubbed, settled, waveAt, rampOf, pitchModOf, ampModOf}
 
--- ---- what is accepted
+-- ---- what is refused
 
 -- finite and at least 0, as -0 is
 unfoldable pub fromZero : Float → Bool
@@ -37,32 +40,44 @@ scrubFits lfo sample = fromZero sample && lt (sample ⊗ lfo .frequency) (decima
 abbrev pub prepared : ℕ → Lfo → Prepared
 prepared number lfo = record { number = number; lfo = lfo }
 
--- a refusal hands back the state and the generator's number as they came
+abbrev pub moved : Motion → Moved
+moved there = record { number = 0; lfo = there .lfo; state = there .state }
+
 abbrev pub notMoved : ℕ → Lfo → ℕ → Moved
 notMoved number lfo state = record { number = number; lfo = lfo; state = state }
 
+abbrev pub notRead : ℕ → Read
+notRead number = record { number = number; value = decimal 0 0 }
+
 -- refused, an LFO of zeros stands there
 unfoldable pub initAnswer : Float → Prepared
-initAnswer rate = cond (sampleRateFits rate) (prepared 0 (freshLfo (decimal 1 0 ⊘ rate) (decimal 1 1))) (prepared 5 (freshLfo (decimal 0 0) (decimal 0 0)))
+initAnswer rate =
+    cond (sampleRateFits rate)
+    (prepared 0 (freshLfo (decimal 1 0 ⊘ rate) (decimal 1 1)))
+    (prepared 5 (freshLfo (decimal 0 0) (decimal 0 0)))
 
 -- a pitch sensitivity is at most 7 here
 unfoldable pub setAnswer : Lfo → ModulationParameters → Prepared
-setAnswer lfo m = cond (stateFits lfo) (cond (modulationsFit m 7) (prepared 0 (adjusted lfo m)) (prepared 6 lfo)) (prepared 9 lfo)
+setAnswer lfo m =
+    cond (stateFits lfo) (cond (modulationsFit m 7) (prepared 0 (adjusted lfo m)) (prepared 6 lfo)) (prepared 9 lfo)
 
 unfoldable pub resetAnswer : Lfo → Prepared
 resetAnswer lfo = cond (stateFits lfo) (prepared 0 (restarted lfo)) (prepared 9 lfo)
 
+-- a motion, where its argument fits; otherwise 7
+unfoldable pub moveAnswer : Lfo → ℕ → Bool → Motion → Moved
+moveAnswer lfo state fits there =
+    cond (stateFits lfo) (cond fits (moved there) (notMoved 7 lfo state)) (notMoved 9 lfo state)
+
 unfoldable pub stepAnswer : List Float → Lfo → ℕ → Float → Moved
-stepAnswer lut lfo state scale =
-    cond (stateFits lfo) (cond (stepFits lfo scale) (settled lut (stepped lfo state scale)) (notMoved 7 lfo state)) (notMoved 9 lfo state)
+stepAnswer lut lfo state scale = moveAnswer lfo state (stepFits lfo scale) (settled lut (stepped lfo state scale))
 
 unfoldable pub scrubAnswer : List Float → Lfo → ℕ → Float → Moved
-scrubAnswer lut lfo state sample =
-    cond (stateFits lfo) (cond (scrubFits lfo sample) (settled lut (scrubbed lfo state sample)) (notMoved 7 lfo state)) (notMoved 9 lfo state)
+scrubAnswer lut lfo state sample = moveAnswer lfo state (scrubFits lfo sample) (settled lut (scrubbed lfo state sample))
 
--- a value read from an LFO; refused, 0
+-- a value read from an LFO
 unfoldable pub readAnswer : Lfo → Float → Read
-readAnswer lfo value = cond (stateFits lfo) (record { number = 0; value = value }) (record { number = 9; value = decimal 0 0 })
+readAnswer lfo value = cond (stateFits lfo) (record { number = 0; value = value }) (notRead 9)
 
 -- the wave where the LFO stands, which need not be the stored value
 unfoldable pub valueAnswer : List Float → Lfo → Read

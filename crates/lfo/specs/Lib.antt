@@ -1,3 +1,3 @@
-pub mod Lfo
+-- the definitions that the contracts cite, and sequences of calls
 pub mod Answers
 pub mod Played

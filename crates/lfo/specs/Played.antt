@@ -1,5 +1,5 @@
--- A sequence of LFO calls, accepted or refused: its answers and its end are a function of the state, the generator's number and the arguments alone.
--- And what every state on the way is like, from a fresh LFO on. Definitions only.
+-- A sequence of LFO calls, accepted or refused: its answers and its end are a function of the state, the generator's
+-- number and the arguments alone. And what every state on the way is like, from a fresh LFO on. Definitions only.
 use mathlib.Core.Bool.{Bool, true, not, _&&_}
 use mathlib.Core.List.{List, [], _∷_}
 use Prim.Native.Nat.{ℕ}
@@ -7,11 +7,12 @@ use lib.Dec.{T, eqb}
 use lib.Ieee.{Float, binary32, le, fits}
 use Rattle.numbers.specs.F32.{_⊘_, decimal}
 use Rattle.patch.specs.declared.ModulationParameters.{ModulationParameters}
-use Rattle.lfo.specs.declared.Lfo.{Lfo}
+use Rattle.lfo_inner.specs.declared.Lfo.{Lfo}
 use Rattle.lfo.specs.declared.Prepared.{Prepared}
 use Rattle.lfo.specs.declared.Moved.{Moved}
 use Rattle.lfo.specs.declared.Read.{Read}
-use Rattle.lfo.specs.Answers.{stateFits, setAnswer, resetAnswer, stepAnswer, scrubAnswer, valueAnswer, delayRampAnswer, pitchModAnswer, ampModAnswer}
+use Rattle.lfo.specs.Answers.{stateFits, setAnswer, resetAnswer, stepAnswer, scrubAnswer}
+use Rattle.lfo.specs.Answers.{valueAnswer, delayRampAnswer, pitchModAnswer, ampModAnswer}
 
 -- a call of an entry, with its arguments
 pub data Call : Type 0 where
@@ -45,7 +46,8 @@ answerTo lut DelayRamp lfo state = Reads (delayRampAnswer lfo)
 answerTo lut PitchMod lfo state = Reads (pitchModAnswer lfo)
 answerTo lut AmpMod lfo state = Reads (ampModAnswer lfo)
 
--- the LFO and the generator's number that the next call gets: those of the answer, or the same as before where it has none
+-- the LFO and the generator's number that the next call gets: those of the answer, or the same as before where it has
+-- none
 abbrev pub lfoAfter : Lfo → Answer → Lfo
 lfoAfter lfo (Prepares a) = a .lfo
 lfoAfter lfo (Moves a) = a .lfo

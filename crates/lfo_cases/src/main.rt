@@ -1,7 +1,7 @@
 // The registry's old fault, shown gone: two workers that played different patches before give the same
 // sample-and-hold sequence. A worker plays its own LFO for a while, and then the patch that is to be
 // identified, with the generator's number 21 (hex); the draws are printed by their bits.
-use lfo::Lfo;
+use lfo_inner::Lfo;
 use libc::STDOUT_FILENO;
 use patch::ModulationParameters;
 

@@ -17,7 +17,7 @@ use Rattle.patch.specs.declared.Patch.{Patch}
 use Rattle.patch_limits.specs.Ranges.{between, sampleRateFits}
 use Rattle.algorithms.specs.Plan.{counted}
 use Rattle.algorithms_opcodes.specs.Opcodes.{sixOperators}
-use Rattle.lfo.specs.declared.Lfo.{Lfo}
+use Rattle.lfo_inner.specs.declared.Lfo.{Lfo}
 use Rattle.lfo.specs.Answers as lfo
 use Rattle.lfo.specs.Played.{Valid}
 use Rattle.lfo.proofs.Sequences.{init-valid}

@@ -17,9 +17,9 @@ use Rattle.patch.specs.declared.ModulationParameters.{ModulationParameters}
 use Rattle.patch.specs.Packed.{patchFits, modulationsFit}
 use Rattle.patch_limits.specs.Ranges.{between, sampleRateFits}
 use Rattle.sine.specs.Table.{lutSine}
-use Rattle.lfo.specs.declared.Lfo.{Lfo}
-use Rattle.lfo.specs.Lfo.{freshLfo, adjusted, movedTo, valued, restarted, stepped, settled, firstOf, secondOf, rampOf, pitchModOf, ampModOf}
-use Rattle.lfo.specs.Answers.{fromZero, stateFits, stepFits, initAnswer, setAnswer, resetAnswer, stepAnswer, readAnswer, pitchModAnswer, ampModAnswer}
+use Rattle.lfo_inner.specs.declared.Lfo.{Lfo}
+use Rattle.lfo_inner.specs.Lfo.{freshLfo, adjusted, movedTo, valued, restarted, stepped, settled, firstOf, secondOf, rampOf, pitchModOf, ampModOf}
+use Rattle.lfo.specs.Answers.{fromZero, stateFits, stepFits, moved, initAnswer, setAnswer, resetAnswer, moveAnswer, stepAnswer, readAnswer, pitchModAnswer, ampModAnswer}
 use Rattle.lfo.specs.Played.{Set, Reset, Step, answerTo, played, Valid}
 use Rattle.lfo.proofs.Phases.{FromZero, plus}
 use Rattle.lfo.proofs.Accepted.{phase-part}
@@ -93,8 +93,9 @@ step-accepted : (lfo : Lfo) → Tame lfo → stepFits lfo (decimal 64 0) ≡ tru
 unfolding stepFits
 step-accepted lfo t = rw (scale-fits, is-true (lt (decimal 64 0 ⊗ lfo .frequency) (decimal 1 0)) (t .slow)) refl
 
-step-is : (lfo : Lfo) (state : ℕ) → Tame lfo → stepAnswer lutSine lfo state (decimal 64 0) ≡ settled lutSine (stepped lfo state (decimal 64 0))
-unfolding stepAnswer
+step-is : (lfo : Lfo) (state : ℕ) → Tame lfo
+    → stepAnswer lutSine lfo state (decimal 64 0) ≡ moved (settled lutSine (stepped lfo state (decimal 64 0)))
+unfolding stepAnswer moveAnswer
 step-is lfo state t = rw (is-true (stateFits lfo) (t .valid .accepted), step-accepted lfo t) refl
 
 step-valid : (lfo : Lfo) (state : ℕ) → Tame lfo → Valid (stepAnswer lutSine lfo state (decimal 64 0) .lfo)
@@ -123,7 +124,7 @@ pub step-tame : (lfo : Lfo) (state : ℕ) → Tame lfo
     → (stepAnswer lutSine lfo state (decimal 64 0) .number ≡ 0) × Tame (stepAnswer lutSine lfo state (decimal 64 0) .lfo)
 step-tame lfo state t =
     let e = step-is lfo state t in (
-      ap (λ m. m .number) e ∙ (unfold settled stepped in refl),
+      ap (λ m. m .number) e,
       subst (λ m. Tame (m .lfo)) (sym e) (settled-tame lfo state t (subst (λ m. Valid (m .lfo)) e (step-valid lfo state t))),
     )
 

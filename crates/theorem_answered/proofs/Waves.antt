@@ -12,9 +12,9 @@ use Rattle.numbers.specs.F32.{_⊖_, _⊗_, _⊘_, decimal, asFloat}
 use Rattle.units.proofs.Bounds.{Upto, upto, upto-whole, round-plus}
 use Rattle.random.specs.Random.{nextNumber, draw}
 use Rattle.sine.specs.Table.{lutSine}
-use Rattle.lfo.specs.declared.Waveform.{Waveform}
-use Rattle.lfo.specs.declared.Waveform.the-variants.{Triangle, RampDown, RampUp, Square, Sine, SAndH}
-use Rattle.lfo.specs.Lfo.{triangleWave, squareWave, sineWave, waveOf, drawnIf}
+use Rattle.lfo_inner.specs.declared.Waveform.{Waveform}
+use Rattle.lfo_inner.specs.declared.Waveform.the-variants.{Triangle, RampDown, RampUp, Square, Sine, SAndH}
+use Rattle.lfo_inner.specs.Lfo.{triangleWave, squareWave, sineWave, waveOf, drawnIf}
 use Rattle.lfo.proofs.Phases.{Part}
 use Rattle.theorem_answered.proofs.Shares.{Share, share, rounded-share, one-less, twice-past-half, twice-to-half, half-lifted}
 use Rattle.theorem_answered.proofs.Turns.{part-share, sine-small}

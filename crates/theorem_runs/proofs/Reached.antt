@@ -12,7 +12,7 @@ use Rattle.sine.specs.Table.{lutSine}
 use Rattle.sine.specs.Pairs.{sinePairs}
 use Rattle.units.specs.Tables.{lutPitchRatioHigh, lutPitchRatioLow}
 use Rattle.algorithms.specs.Plan.{counted}
-use Rattle.lfo.specs.declared.Lfo.{Lfo}
+use Rattle.lfo_inner.specs.declared.Lfo.{Lfo}
 use Rattle.lfo.specs.Answers as lfoAnswers
 use Rattle.lfo.specs.Played as lfo
 use Rattle.lfo.specs.Played.{Valid}

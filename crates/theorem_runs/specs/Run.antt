@@ -10,7 +10,7 @@ use Rattle.sine.specs.Table.{lutSine}
 use Rattle.sine.specs.Pairs.{sinePairs}
 use Rattle.units.specs.Tables.{lutPitchRatioHigh, lutPitchRatioLow}
 use Rattle.patch.specs.declared.Patch.{Patch}
-use Rattle.lfo.specs.declared.Lfo.{Lfo}
+use Rattle.lfo_inner.specs.declared.Lfo.{Lfo}
 use Rattle.lfo.specs.declared.Prepared as lfoPrepared
 use Rattle.lfo.specs.Answers as lfoAnswers
 use Rattle.lfo.specs.Played as lfo

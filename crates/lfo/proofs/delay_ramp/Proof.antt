@@ -4,15 +4,15 @@ use borrow.Author.Needs.{needs}
 use Rattle.lfo.proofs.delay_ramp.Statement.{statement}
 use Rattle.lfo.proofs.delay_ramp.Tie as tie
 
-ramp-requires : tie.Need-ramp-requires
-ramp-requires c κs = search needs
+delay-ramp-requires : tie.Need-delay-ramp-requires
+delay-ramp-requires c κs = search needs
 
 reading-requires : tie.Need-reading-requires
 reading-requires c κs = search needs
 
 returns : tie.Need-returns
 unfolding delayRampAnswer
-returns c = simp (c .reading .ensures, c .before .ramp .ensures)
+returns c = simp (c .reading .ensures, c .before .delay-ramp .ensures)
 
 pub delay-ramp-spec : {M : Type 1} → statement M
-delay-ramp-spec = tie.close (tie.spec ramp-requires reading-requires returns)
+delay-ramp-spec = tie.close (tie.spec delay-ramp-requires reading-requires returns)

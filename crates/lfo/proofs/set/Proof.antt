@@ -26,8 +26,8 @@ returns-2 c =
           (c .before .modulations-fit .ensures) (c .if2 .taken),
     )
 
-adjust-requires : tie.Need-adjust-requires
-adjust-requires c κs =
+set-requires : tie.Need-set-requires
+set-requires c κs =
     let at-start = c .before .before .before .before in
     sensitivity-fits (at-start .args .modulations) 7 (accepted (c .before .modulations-fit .ensures) (c .if2 .left))
 
@@ -35,7 +35,7 @@ returns-3 : tie.Need-returns-3
 unfolding setAnswer
 returns-3 c =
     let fits = c .before .before in
-    simp (accepted (fits .before .before .state-fits .ensures) (fits .before .if1 .left), accepted (fits .modulations-fit .ensures) (c .before .if2 .left), c .adjust .ensures)
+    simp (accepted (fits .before .before .state-fits .ensures) (fits .before .if1 .left), accepted (fits .modulations-fit .ensures) (c .before .if2 .left), c .set .ensures)
 
 pub set-spec : {M : Type 1} → statement M
 set-spec =
@@ -45,5 +45,5 @@ set-spec =
     returns
     modulations-fit-requires
     returns-2
-    adjust-requires
+    set-requires
     returns-3)

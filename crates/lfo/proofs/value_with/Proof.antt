@@ -4,15 +4,15 @@ use borrow.Author.Needs.{needs}
 use Rattle.lfo.proofs.value_with.Statement.{statement}
 use Rattle.lfo.proofs.value_with.Tie as tie
 
-wave-with-requires : tie.Need-wave-with-requires
-wave-with-requires c κs = search needs
+value-with-requires : tie.Need-value-with-requires
+value-with-requires c κs = search needs
 
 reading-requires : tie.Need-reading-requires
 reading-requires c κs = search needs
 
 returns : tie.Need-returns
 unfolding valueAnswer
-returns c = simp (c .reading .ensures, c .before .wave-with .ensures)
+returns c = simp (c .reading .ensures, c .before .value-with .ensures)
 
 pub value-with-spec : {M : Type 1} → statement M
-value-with-spec = tie.close (tie.spec wave-with-requires reading-requires returns)
+value-with-spec = tie.close (tie.spec value-with-requires reading-requires returns)
