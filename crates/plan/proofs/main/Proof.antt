@@ -23,14 +23,26 @@ print-requires c κs = search needs
 array-share-prefix-out : tie.Need-array-share-prefix-out
 array-share-prefix-out c = printed-within _ _ _ _ refl (c .print .ensures)
 
-slice-aggregate-write-all : tie.Need-slice-aggregate-write-all
-slice-aggregate-write-all c = printed-part _ _ _ _ refl (c .before .print .ensures)
+slice-aggregate-write : tie.Need-slice-aggregate-write
+slice-aggregate-write c = printed-part _ _ _ _ refl (c .before .print .ensures)
 
-write-all-requires : tie.Need-write-all-requires
-write-all-requires c κs = search needs
+write-requires : tie.Need-write-requires
+write-requires c κs = search needs
+
+array-share-prefix-bytes-2 : tie.Need-array-share-prefix-bytes-2
+array-share-prefix-bytes-2 c = search needs
+
+slice-aggregate-tell-if-refused : tie.Need-slice-aggregate-tell-if-refused
+slice-aggregate-tell-if-refused c = search needs
+
+tell-if-refused-requires : tie.Need-tell-if-refused-requires
+tell-if-refused-requires c κs = search needs
 
 returns : tie.Need-returns
 returns c = search needs
+
+returns-2 : tie.Need-returns-2
+returns-2 c = search needs
 
 pub main-spec : {M : Type 1} → statement M
 main-spec =
@@ -42,6 +54,10 @@ main-spec =
     slice-aggregate-print
     print-requires
     array-share-prefix-out
-    slice-aggregate-write-all
-    write-all-requires
-    returns)
+    slice-aggregate-write
+    write-requires
+    array-share-prefix-bytes-2
+    slice-aggregate-tell-if-refused
+    tell-if-refused-requires
+    returns
+    returns-2)

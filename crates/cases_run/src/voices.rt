@@ -1,0 +1,90 @@
+// Voices: what was given, and what came back.
+use crate::heading;
+use crate::line;
+use patch::Patch;
+use voice::Voice;
+use voice_render::VoiceParameters;
+
+fn parameters(note: f32) -> VoiceParameters {
+    VoiceParameters {
+        sustain: false,
+        gate: true,
+        note: note,
+        velocity: 0.8,
+        brightness: 0.5,
+        envelope_control: 0.5,
+        pitch_mod: 0.0,
+        amp_mod: 0.0,
+    }
+}
+
+// A voice of six operators that has the patch of zeros.
+fn dirty() -> Voice {
+    let zeros = [0u8; 128];
+    let table = algorithms_opcodes::opcodes_6_32();
+    let read = patch::unpack(Patch::new(), &zeros);
+    let p = read.patch;
+    let started = voice::init(6, 48000.0);
+    let fresh = started.voice;
+    let loaded = voice::set_patch(fresh, p, &table);
+    let v = loaded.voice;
+    v
+}
+
+fn started(text: &[u8], operators: usize, sample_rate: f32) -> bool {
+    line(text, voice::init(operators, sample_rate).number as u64)
+}
+
+fn starts() -> bool {
+    started(b"six operators at 48000: ", 6, 48000.0)
+        && started(b"five operators at 7999: ", 5, 7999.0)
+        && started(b"six operators at 7999: ", 6, 7999.0)
+}
+
+// The easy slip: a blank block does not record the gate.
+fn gates() -> bool {
+    let mut block = [0.0f32; 8];
+    let blank = voice_render::render(dirty(), parameters(60.0), &mut block);
+    let v = blank.voice;
+    let sounding = voice_render::render(v, parameters(60.0), &mut block);
+    let w = sounding.voice;
+    line(b"gate after a blank block: ", v.gate as u64)
+        && line(b"gate after a sounding block: ", w.gate as u64)
+}
+
+fn rendered(text: &[u8], note: f32, block: &mut [f32]) -> bool {
+    line(
+        text,
+        voice_render::render(dirty(), parameters(note), block).number as u64,
+    )
+}
+
+fn blocks() -> bool {
+    let mut two = [0.0f32; 2];
+    let mut five = [0.0f32; 5];
+    let mut most = [0.0f32; 4096];
+    let mut more = [0.0f32; 4100];
+    rendered(b"block of no numbers: ", 60.0, &mut two[..0])
+        && rendered(b"block of 5 numbers: ", 60.0, &mut five)
+        && rendered(b"block of 4096 numbers: ", 60.0, &mut most)
+        && rendered(b"block of 4100 numbers: ", 60.0, &mut more)
+}
+
+fn taken_out(text: &[u8], v: Voice) -> bool {
+    line(text, voice::take_patch(v).number as u64)
+}
+
+fn refusals() -> bool {
+    let mut block = [0.0f32; 8];
+    let v = dirty();
+    let mut clean = v;
+    clean.has_patch = false;
+    clean.dirty = false;
+    rendered(b"note 128: ", 128.0, &mut block)
+        && taken_out(b"taking the patch out: ", v)
+        && taken_out(b"clean without a patch: ", clean)
+}
+
+pub fn run() -> bool {
+    heading(b"# voices\n") && starts() && gates() && blocks() && refusals()
+}

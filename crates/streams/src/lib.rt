@@ -1,0 +1,118 @@
+// What programs share at their edge: a line put together in a buffer and then written or told, and a window over what is read.
+// Results go to standard output and what is wrong to standard error. No contract can say what is read or written: these
+// functions are proved safe and ending, and need nothing of their callers.
+ghost use mathlib.Core.Path.{_≡_};
+ghost use Prim.Native.Nat.{_≤_, min};
+ghost use lib.ListN.{length};
+use libc::STDERR_FILENO;
+use libc::STDOUT_FILENO;
+
+pub fn least(a: usize, b: usize) -> usize
+    ensures { λ r. ⌜ r ≡ min a b ⌝ }
+{
+    if a < b { a } else { b }
+}
+
+// A piece at a place of a line, as far as there is room; the answer is the place behind it.
+pub fn put(line: &mut [u8], at: usize, piece: &[u8]) -> usize {
+    if line.len() < at {
+        return at;
+    }
+    let n = least(piece.len(), line.len() - at);
+    let mut k = 0usize;
+    while k < n {
+        line[at + k] = piece[k];
+        k += 1;
+    }
+    at + n
+}
+
+pub fn put_decimal(line: &mut [u8], at: usize, n: u64) -> usize {
+    let mut text = [0u8; 20];
+    let k = io::decimal(n, &mut text);
+    put(line, at, &text[..k])
+}
+
+pub fn put_hex(line: &mut [u8], at: usize, n: u64, width: usize) -> usize {
+    let mut text = [0u8; 16];
+    let k = io::hex(n, width, &mut text);
+    put(line, at, &text[..k])
+}
+
+// A refusal's number and words.
+pub fn put_refusal(line: &mut [u8], at: usize, number: u8) -> usize {
+    let mut text = [0u8; refusals::ROOM];
+    let k = refusals::text(number, &mut text);
+    put(line, at, &text[..k])
+}
+
+// The first bytes of a buffer to standard output. The answer says whether they were written; if not, that is told.
+pub fn write(buffer: &[u8], n: usize) -> bool {
+    let start = 0usize;
+    let end = least(n, buffer.len());
+    let written = io::write_all(STDOUT_FILENO, &buffer[start..end]);
+    if !written {
+        os::fail(b"standard output");
+    }
+    written
+}
+
+// The first bytes of a line to standard error.
+pub fn tell(line: &[u8], n: usize) {
+    let start = 0usize;
+    let end = least(n, line.len());
+    io::write_all(STDERR_FILENO, &line[start..end]);
+}
+
+// The first bytes of a line to standard error, and why the last call failed.
+pub fn tell_why(line: &[u8], n: usize) {
+    let start = 0usize;
+    let end = least(n, line.len());
+    os::fail(&line[start..end]);
+}
+
+// A window over what is read: the bytes from `at` up to `end` of its buffer wait. `ended` says that no more will come, `failed`
+// that a read failed.
+pub struct Window {
+    pub at: usize,
+    pub end: usize,
+    pub ended: bool,
+    pub failed: bool,
+}
+
+pub fn closed() -> Window {
+    Window {
+        at: 0,
+        end: 0,
+        ended: false,
+        failed: false,
+    }
+}
+
+// Moves the bytes from `at` up to `end` to the buffer's start.
+fn keep(buffer: &mut [u8], at: usize, end: usize)
+    requires { ⌜ end ≤ length (now buffer) ⌝ }
+{
+    let mut i = at;
+    while i < end {
+        buffer[i - at] = buffer[i];
+        i += 1;
+    }
+}
+
+// One read behind the bytes that wait, which it moves to the buffer's start. A full buffer ends the window.
+pub fn refill(fd: i32, buffer: &mut [u8], w: Window) -> Window {
+    let end = least(w.end, buffer.len());
+    let at = least(w.at, end);
+    keep(buffer, at, end);
+    let held = end - at;
+    let rest = &mut buffer[held..];
+    let got = libc::read(fd, rest);
+    let more = io::count(got, rest);
+    Window {
+        at: 0,
+        end: std::num::wrapping_add_usize(held, more),
+        ended: more == 0,
+        failed: got < 0,
+    }
+}
