@@ -78,7 +78,10 @@ fn put_draws(line: &mut [u8], at: usize) -> usize {
 }
 
 // What a worker played before, the number that its generator had then, and the draws.
-fn worker(name: &[u8], rate: u8, waveform: u8, blocks: u32) -> bool {
+fn worker(going: bool, name: &[u8], rate: u8, waveform: u8, blocks: u32) -> bool {
+    if !going {
+        return false;
+    }
     let before = played(ready(rate, waveform, START), blocks);
     let mut line = [0u8; 128];
     let a = streams::put(&mut line, 0, name);
@@ -89,8 +92,8 @@ fn worker(name: &[u8], rate: u8, waveform: u8, blocks: u32) -> bool {
     streams::write(&line, e)
 }
 
-pub fn run() -> bool {
-    heading(b"# LFOs\n")
-        && worker(b"worker 1 played a triangle, number ", 40, 0, 100)
-        && worker(b"worker 2 played a sample and hold, number ", 90, 5, 777)
+pub fn run(going: bool) -> bool {
+    let a = heading(going, b"LFOs");
+    let b = worker(a, b"worker 1 played a triangle, number ", 40, 0, 100);
+    worker(b, b"worker 2 played a sample and hold, number ", 90, 5, 777)
 }

@@ -1,5 +1,6 @@
-// Document 01's cases that are run and not proved, topic by topic, and the registry's old fault, shown gone. Each topic has a heading
-// and a line for each case: what was given, and what came back. The answer of each function says whether its lines were written.
+// Document 01's cases that are run and not proved, topic by topic, and the registry's old fault, shown gone. Each
+// topic has a heading and a line for each case: what was given, and what came back. Each function is told whether
+// every line before it was written, writes nothing where one was not, and says how it was with its own.
 mod lfos;
 mod patches;
 mod plans;
@@ -7,19 +8,28 @@ mod texts;
 mod units;
 mod voices;
 
-// A text and a number.
-fn line(text: &[u8], n: u64) -> bool {
-    let mut out = [0u8; 128];
-    let a = streams::put(&mut out, 0, text);
-    let b = streams::put_decimal(&mut out, a, n);
-    let c = streams::put(&mut out, b, b"\n");
-    streams::write(&out, c)
+// A text and a number, if nothing went wrong before.
+fn line(going: bool, text: &[u8], n: u64) -> bool {
+    if !going {
+        return false;
+    }
+    let mut digits = [0u8; 20];
+    let k = io::decimal(n, &mut digits);
+    streams::print_line(b"", text, &digits[..k])
 }
 
-fn heading(text: &[u8]) -> bool {
-    streams::write(text, text.len())
+fn heading(going: bool, text: &[u8]) -> bool {
+    if !going {
+        return false;
+    }
+    streams::print_line(b"", b"# ", text)
 }
 
 fn main() {
-    patches::run() && units::run() && plans::run() && lfos::run() && voices::run() && texts::run();
+    let a = patches::run(true);
+    let b = units::run(a);
+    let c = plans::run(b);
+    let d = lfos::run(c);
+    let e = voices::run(d);
+    texts::run(e);
 }

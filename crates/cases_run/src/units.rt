@@ -1,4 +1,5 @@
-// Conversions: level 100 is refused with 6, pitch level 18 is -1 and 82 slightly above 1. A field is refused before a parameter.
+// Conversions: level 100 is refused with 6, pitch level 18 is -1 and 82 slightly above 1. A field is refused before a
+// parameter.
 use crate::heading;
 use dx_units::Converted;
 use dx_units::Level;
@@ -55,21 +56,30 @@ fn end_level(line: &mut [u8], at: usize, answer: Level) -> bool {
     }
 }
 
-fn level(n: u8) -> bool {
+fn level(going: bool, n: u8) -> bool {
+    if !going {
+        return false;
+    }
     let mut line = [0u8; 128];
     let a = streams::put(&mut line, 0, b"level ");
     let b = streams::put_decimal(&mut line, a, n as u64);
     end_level(&mut line, b, dx_units::operator_level(n))
 }
 
-fn octaves(n: u8) -> bool {
+fn octaves(going: bool, n: u8) -> bool {
+    if !going {
+        return false;
+    }
     let mut line = [0u8; 128];
     let a = streams::put(&mut line, 0, b"pitch level ");
     let b = streams::put_decimal(&mut line, a, n as u64);
     end_answer(&mut line, b, dx_units::pitch_envelope_level(n))
 }
 
-fn scaling(n: u8, note: f32) -> bool {
+fn scaling(going: bool, n: u8, note: f32) -> bool {
+    if !going {
+        return false;
+    }
     let mut line = [0u8; 128];
     let a = streams::put(&mut line, 0, b"rate scaling ");
     let b = streams::put_decimal(&mut line, a, n as u64);
@@ -78,17 +88,20 @@ fn scaling(n: u8, note: f32) -> bool {
     end_answer(&mut line, d, dx_units::rate_scaling(note, n))
 }
 
-fn scalings() -> bool {
+fn scalings(going: bool) -> bool {
     let nan = 0.0 / 0.0;
-    scaling(0, 127.0) && scaling(0, 127.5) && scaling(0, nan) && scaling(8, nan)
+    let a = scaling(going, 0, 127.0);
+    let b = scaling(a, 0, 127.5);
+    let c = scaling(b, 0, nan);
+    scaling(c, 8, nan)
 }
 
-pub fn run() -> bool {
-    heading(b"# conversions\n")
-        && level(99)
-        && level(100)
-        && octaves(18)
-        && octaves(50)
-        && octaves(82)
-        && scalings()
+pub fn run(going: bool) -> bool {
+    let a = heading(going, b"conversions");
+    let b = level(a, 99);
+    let c = level(b, 100);
+    let d = octaves(c, 18);
+    let e = octaves(d, 50);
+    let f = octaves(e, 82);
+    scalings(f)
 }

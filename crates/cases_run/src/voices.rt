@@ -31,60 +31,69 @@ fn dirty() -> Voice {
     v
 }
 
-fn started(text: &[u8], operators: usize, sample_rate: f32) -> bool {
-    line(text, voice::init(operators, sample_rate).number as u64)
+fn started(going: bool, text: &[u8], operators: usize, sample_rate: f32) -> bool {
+    line(
+        going,
+        text,
+        voice::init(operators, sample_rate).number as u64,
+    )
 }
 
-fn starts() -> bool {
-    started(b"six operators at 48000: ", 6, 48000.0)
-        && started(b"five operators at 7999: ", 5, 7999.0)
-        && started(b"six operators at 7999: ", 6, 7999.0)
+fn starts(going: bool) -> bool {
+    let a = started(going, b"six operators at 48000: ", 6, 48000.0);
+    let b = started(a, b"five operators at 7999: ", 5, 7999.0);
+    started(b, b"six operators at 7999: ", 6, 7999.0)
 }
 
 // The easy slip: a blank block does not record the gate.
-fn gates() -> bool {
+fn gates(going: bool) -> bool {
     let mut block = [0.0f32; 8];
     let blank = voice_render::render(dirty(), parameters(60.0), &mut block);
     let v = blank.voice;
     let sounding = voice_render::render(v, parameters(60.0), &mut block);
     let w = sounding.voice;
-    line(b"gate after a blank block: ", v.gate as u64)
-        && line(b"gate after a sounding block: ", w.gate as u64)
+    let a = line(going, b"gate after a blank block: ", v.gate as u64);
+    line(a, b"gate after a sounding block: ", w.gate as u64)
 }
 
-fn rendered(text: &[u8], note: f32, block: &mut [f32]) -> bool {
+fn rendered(going: bool, text: &[u8], note: f32, block: &mut [f32]) -> bool {
     line(
+        going,
         text,
         voice_render::render(dirty(), parameters(note), block).number as u64,
     )
 }
 
-fn blocks() -> bool {
+fn blocks(going: bool) -> bool {
     let mut two = [0.0f32; 2];
     let mut five = [0.0f32; 5];
     let mut most = [0.0f32; 4096];
     let mut more = [0.0f32; 4100];
-    rendered(b"block of no numbers: ", 60.0, &mut two[..0])
-        && rendered(b"block of 5 numbers: ", 60.0, &mut five)
-        && rendered(b"block of 4096 numbers: ", 60.0, &mut most)
-        && rendered(b"block of 4100 numbers: ", 60.0, &mut more)
+    let a = rendered(going, b"block of no numbers: ", 60.0, &mut two[..0]);
+    let b = rendered(a, b"block of 5 numbers: ", 60.0, &mut five);
+    let c = rendered(b, b"block of 4096 numbers: ", 60.0, &mut most);
+    rendered(c, b"block of 4100 numbers: ", 60.0, &mut more)
 }
 
-fn taken_out(text: &[u8], v: Voice) -> bool {
-    line(text, voice::take_patch(v).number as u64)
+fn taken_out(going: bool, text: &[u8], v: Voice) -> bool {
+    line(going, text, voice::take_patch(v).number as u64)
 }
 
-fn refusals() -> bool {
+fn refusals(going: bool) -> bool {
     let mut block = [0.0f32; 8];
     let v = dirty();
     let mut clean = v;
     clean.has_patch = false;
     clean.dirty = false;
-    rendered(b"note 128: ", 128.0, &mut block)
-        && taken_out(b"taking the patch out: ", v)
-        && taken_out(b"clean without a patch: ", clean)
+    let a = rendered(going, b"note 128: ", 128.0, &mut block);
+    let b = taken_out(a, b"taking the patch out: ", v);
+    taken_out(b, b"clean without a patch: ", clean)
 }
 
-pub fn run() -> bool {
-    heading(b"# voices\n") && starts() && gates() && blocks() && refusals()
+pub fn run(going: bool) -> bool {
+    let a = heading(going, b"voices");
+    let b = starts(a);
+    let c = gates(b);
+    let d = blocks(c);
+    refusals(d)
 }

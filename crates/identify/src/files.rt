@@ -25,17 +25,26 @@ fn is_short(w: Window) -> bool {
     std::num::wrapping_sub_usize(w.end, w.at) < NEEDED
 }
 
+// That a read failed.
+fn tell_unread(name: &[u8]) {
+    if name.len() == 0 {
+        streams::tell_why(name, b"standard input");
+        return;
+    }
+    streams::tell_why(name, b"cannot be read");
+}
+
 // One read more. That it failed is told.
 fn filled(fd: i32, name: &[u8], buffer: &mut [u8], w: Window) -> Window {
     let r = streams::refill(fd, buffer, w);
     if r.failed {
-        lines::tell_why(name, b"cannot be read");
+        tell_unread(name);
     }
     r
 }
 
-// The window at a file's start. Nothing says that a file ends, so the turns of this and of the other loops over files are counted
-// down, from a number that no run uses up.
+// The window at a file's start. Nothing says that a file ends, so the turns of this and of the other loops over files
+// are counted down, from a number that no run uses up.
 pub fn begin(fd: i32, name: &[u8], buffer: &mut [u8]) -> Window {
     let mut w = streams::closed();
     let mut turns = u64::MAX;
@@ -60,8 +69,9 @@ pub fn drain(fd: i32) {
     }
 }
 
-// A walk through a file: the window, the place in the file of the first byte that waits, whether that byte goes on with a message
-// that is no dump, how many bytes before it begin no message, whether the walk is over, and whether every line was written.
+// A walk through a file: the window, the place in the file of the first byte that waits, whether that byte goes on
+// with a message that is no dump, how many bytes before it begin no message, whether the walk is over, and whether
+// every line was written.
 struct Walk {
     window: Window,
     place: u64,

@@ -1,13 +1,15 @@
-// Prints the identifiers of the patches on standard input or in the files that its words name. Standard input holds one packed
-// patch of 128 bytes or one dump of 32; a file may also hold several dumps. A line for each patch goes to standard output: its
-// slot, its name and its identifier. What is refused or cannot be read has a line on standard error. docs/PROGRAMS.md has both.
+// Prints the identifiers of the patches on standard input or in the files that its words name. Standard input holds
+// one packed patch of 128 bytes or one dump of 32; a file may also hold several dumps. A line for each patch goes to
+// standard output: its slot, its name and its identifier. What is refused or cannot be read has a line on standard
+// error. docs/PROGRAMS.md has both.
 use libc::STDIN_FILENO;
 
 mod files;
 mod lines;
 mod messages;
 
-// Standard input holds one patch or one dump: what is longer is read to its end and has the wrong length however long it is.
+// Standard input holds one patch or one dump: what is longer is read to its end and has the wrong length however long
+// it is.
 fn standard_input() {
     let mut buffer = io::large_buffer();
     let no_name = b"";
@@ -31,7 +33,7 @@ fn file(word: usize) -> bool {
     }
     let fd = os::open_read(&path[..n]);
     if fd < 0 {
-        lines::tell_why(&path[..n], b"cannot be opened");
+        streams::tell_why(&path[..n], b"cannot be opened");
         return true;
     }
     let going = files::print_file(fd, &path[..n]);

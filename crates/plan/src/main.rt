@@ -1,30 +1,19 @@
-// The plan printer: reads one raw row of 4 or 6 bytes from standard input and prints its plan, or the line of its refusal, which
-// standard error gets in words. Two bytes more than a row are read at most: more input than a row is a wrong length.
+// The plan printer: reads one raw row of 4 or 6 bytes from standard input and prints its plan, or the line of its
+// refusal, which standard error gets in words. Two bytes more than a row are read at most: more input than a row is a
+// wrong length.
 use libc::STDIN_FILENO;
 
-// 3 and 4 name their operator, 2 names none.
-fn put_operator(line: &mut [u8], at: usize, number: u8, operator: u8) -> usize {
-    if number == 2 {
-        return at;
-    }
-    let a = streams::put(line, at, b", at operator ");
-    streams::put_decimal(line, a, operator as u64)
-}
-
-// The refusal in words.
-fn tell_refusal(number: u8, operator: u8) {
-    let mut line = [0u8; 96];
-    let a = streams::put_refusal(&mut line, 0, number);
-    let b = put_operator(&mut line, a, number, operator);
-    let c = streams::put(&mut line, b, b"\n");
-    streams::tell(&line, c);
-}
-
+// The refusal in words. 3 and 4 name their operator, 2 names none.
 fn tell_if_refused(bytes: &[u8]) {
     let p = algorithms::compile_row(bytes.len(), algorithms::six_bytes(bytes));
-    if p.number != 0 {
-        tell_refusal(p.number, p.at);
+    if p.number == 0 {
+        return;
     }
+    if p.number == 2 {
+        streams::tell_refusal(b"", b"", 2);
+        return;
+    }
+    streams::tell_refusal_at(b"", p.number, b", at operator ", p.at as u64);
 }
 
 fn main() {

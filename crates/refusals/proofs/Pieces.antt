@@ -27,7 +27,8 @@ module _ (l : List ℕ) (k : ℕ) (h : k < length l) where
 
   -- what is still to come is written behind what was, and is as long
   pub put-more : (out : List ℕ) (at : ℕ) → (getD l k 0 ≡ 46 → ⊥)
-      → sets out (at + k) (sentence (drop k l)) ≡ sets (set out (at + k) (getD l k 0)) (at + (k + 1)) (sentence (drop (k + 1) l))
+      → sets out (at + k) (sentence (drop k l))
+      ≡ sets (set out (at + k) (getD l k 0)) (at + (k + 1)) (sentence (drop (k + 1) l))
   put-more out at e =
       let s : at + (k + 1) ≡ suc (at + k) = omega arith in
       rw (sentence-goes e, s)
@@ -55,7 +56,8 @@ sets-append (x ∷ xs) ys l i =
     let e : i + suc (length xs) ≡ suc i + length xs = omega arith in
     rw e (sets-append xs ys (set l i x) (suc i))
 
-pub then : (before middle after : List ℕ) (at b c : ℕ) (p q : List ℕ) → Put before at p middle b → Put middle b q after c → Put before at (p ++ q) after c
+pub then : (before middle after : List ℕ) (at b c : ℕ) (p q : List ℕ)
+    → Put before at p middle b → Put middle b q after c → Put before at (p ++ q) after c
 then before middle after at b c p q v w = record {
   place = omega (arith, v .place, w .place, length-append p q);
   buffer = w .buffer ∙ rw (v .buffer, v .place) (sets-append p q before at);
@@ -68,27 +70,34 @@ unfolding sentence digit
 digits-whole n l = rw (ne-eqb (48 + n % 10) 46 (λ e. omega arith))
 
 module _ (n : ℕ) (before after : List ℕ) (at next : ℕ) where
-  pub one-digit : (d : ℕ) → n < 10 → d ≡ digit n → Put before at (sentence (d ∷ [])) after next → Put before at (decimal n) after next
+  pub one-digit : (d : ℕ) → n < 10 → d ≡ digit n
+      → Put before at (sentence (d ∷ [])) after next → Put before at (decimal n) after next
   unfolding decimal sentence
   one-digit d h e p = rw (lt-ltb n 10 h) (rw (e, digits-whole n []) at p)
 
   pub two-digits : (t d : ℕ) → 10 ≤ n → n < 100 → t ≡ digit (n / 10) → d ≡ digit n
       → Put before at (sentence (t ∷ d ∷ [])) after next → Put before at (decimal n) after next
   unfolding decimal sentence
-  two-digits t d g h f e p = rw (le-ltb n 10 g, lt-ltb n 100 h) (rw (f, e, digits-whole (n / 10) (digit n ∷ []), digits-whole n []) at p)
+  two-digits t d g h f e p =
+      let tens = digits-whole (n / 10) (digit n ∷ []) in
+      rw (le-ltb n 10 g, lt-ltb n 100 h) (rw (f, e, tens, digits-whole n []) at p)
 
   pub three-digits : (s t d : ℕ) → 10 ≤ n → 100 ≤ n → s ≡ digit (n / 100) → t ≡ digit (n / 10) → d ≡ digit n
       → Put before at (sentence (s ∷ t ∷ d ∷ [])) after next → Put before at (decimal n) after next
   unfolding decimal sentence
   three-digits s t d g h k f e p =
-      rw (le-ltb n 10 g, le-ltb n 100 h)
-      (rw (k, f, e, digits-whole (n / 100) (digit (n / 10) ∷ digit n ∷ []), digits-whole (n / 10) (digit n ∷ []), digits-whole n []) at p)
+      let hundreds = digits-whole (n / 100) (digit (n / 10) ∷ digit n ∷ []) in
+      let tens = digits-whole (n / 10) (digit n ∷ []) in
+      rw (le-ltb n 10 g, le-ltb n 100 h) (rw (k, f, e, hundreds, tens, digits-whole n []) at p)
 
 pub decimal-size : (n : ℕ) → length (decimal n) ≤ 3
 unfolding decimal
 decimal-size n = pick (ltb n 10) (ltb n 100)
   where
-    pick : (a b : Bool) → length (cond a (digit n ∷ []) (cond b (digit (n / 10) ∷ digit n ∷ []) (digit (n / 100) ∷ digit (n / 10) ∷ digit n ∷ []))) ≤ 3
+    pick : (a b : Bool)
+        → length
+        (cond a (digit n ∷ [])
+        (cond b (digit (n / 10) ∷ digit n ∷ []) (digit (n / 100) ∷ digit (n / 10) ∷ digit n ∷ []))) ≤ 3
     pick true b = omega arith
     pick false true = omega arith
     pick false false = omega arith
@@ -139,7 +148,8 @@ unfolding row wordsOf
 row-words table n l e = pick (leb (n * 48 + 48) (length table)) refl
   where
     pick : (t : Bool) → leb (n * 48 + 48) (length table) ≡ t
-        → cond t (sentence (take 48 (drop (n * 48) table))) (letters "no such number") ≡ letters (getD words n "no such number")
+        → cond t (sentence (take 48 (drop (n * 48) table))) (letters "no such number")
+        ≡ letters (getD words n "no such number")
     pick true b = in-row words table n e (omega (arith, l, leb-true (n * 48 + 48) (length table) b))
     pick false b =
         let h : length words ≤ n = omega (arith, l, leb-false (n * 48 + 48) (length table) b) in
@@ -148,14 +158,16 @@ row-words table n l e = pick (leb (n * 48 + 48) (length table)) refl
 -- ---- the whole text
 
 -- the text whose words came from a table whose rows are the words
-pub told : (before after table : List ℕ) (n r : ℕ) → length table ≡ 48 * length words → rows words table ≡ map letters words
+pub told : (before after table : List ℕ) (n r : ℕ)
+    → length table ≡ 48 * length words → rows words table ≡ map letters words
     → Put before 0 (letters "refused " ++ (decimal n ++ (letters ": " ++ row table n))) after r
     → Begins before (refusal n) after r
 unfolding refusal letters
 told before after table n r k e p =
     let found = row-words table n k e in
     let w = rw found at p in
-    let s : length (refusal n) ≤ 64 = simp length-append (omega (arith, decimal-size n, row-size table n, ap length found)) in
+    let size = ap length found in
+    let s : length (refusal n) ≤ 64 = simp length-append (omega (arith, decimal-size n, row-size table n, size)) in
     record {
       size = omega (arith, w .place);
       fits = omega (arith, w .place);

@@ -1,4 +1,5 @@
--- How the code finds a number's words: in a table of rows of 48 bytes, each a sentence with its full stop and what fills it up.
+-- How the code finds a number's words: in a table of rows of 48 bytes, each a sentence with its full stop and what
+-- fills it up.
 use Prim.Native.Nat.{ℕ, _+_, _*_}
 use mathlib.Core.Path.{_≡_}
 use mathlib.Core.Bool.{cond}
@@ -16,7 +17,9 @@ sentence (b ∷ bs) = cond (eqb b 46) [] (b ∷ sentence bs)
 -- what stands in a number's row
 unfoldable pub row : List ℕ → ℕ → List ℕ
 row table number =
-    cond (leb (number * 48 + 48) (length table)) (sentence (take 48 (drop (number * 48) table))) (letters "no such number")
+    cond (leb (number * 48 + 48) (length table))
+    (sentence (take 48 (drop (number * 48) table)))
+    (letters "no such number")
 
 -- a piece of text written at a place: what the buffer holds afterwards, and the place behind the piece
 pub record Put (before : List ℕ) (at : ℕ) (piece : List ℕ) (after : List ℕ) (next : ℕ) : Type 0 where

@@ -1,5 +1,5 @@
-// The text of a refusal, by its number, as bytes at the start of a lent buffer: `refused 13: wrong checksum`. Added by us: no
-// Rust file. It promises the definition's text for every number, and that what stood behind it stays.
+// The text of a refusal, by its number, as bytes at the start of a lent buffer: `refused 13: wrong checksum`. Added
+// by us: no Rust file. It promises the definition's text for every number, and that what stood behind it stays.
 ghost use mathlib.Core.Path.{_≡_};
 ghost use Prim.Native.Nat.{_+_, _≤_};
 ghost use lib.ListN.{length};

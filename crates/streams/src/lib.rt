@@ -1,11 +1,14 @@
-// What programs share at their edge: a line put together in a buffer and then written or told, and a window over what is read.
-// Results go to standard output and what is wrong to standard error. No contract can say what is read or written: these
-// functions are proved safe and ending, and need nothing of their callers.
+// What programs share at their edge: a line put together in a buffer and then written or told, and a window over what
+// is read. Results go to standard output and what is wrong to standard error. No contract can say what is read or
+// written: these functions are proved safe and ending, and need nothing of their callers.
 ghost use mathlib.Core.Path.{_≡_};
 ghost use Prim.Native.Nat.{_≤_, min};
 ghost use lib.ListN.{length};
 use libc::STDERR_FILENO;
 use libc::STDOUT_FILENO;
+
+// Room for a line: a file's name, and what follows it.
+const LINE: usize = 4352;
 
 pub fn least(a: usize, b: usize) -> usize
     ensures { λ r. ⌜ r ≡ min a b ⌝ }
@@ -64,15 +67,68 @@ pub fn tell(line: &[u8], n: usize) {
     io::write_all(STDERR_FILENO, &line[start..end]);
 }
 
-// The first bytes of a line to standard error, and why the last call failed.
-pub fn tell_why(line: &[u8], n: usize) {
+// What leads a line: a name and a tab, if there is a name.
+fn put_lead(line: &mut [u8], name: &[u8]) -> usize {
+    if name.len() == 0 {
+        return 0;
+    }
+    let a = put(line, 0, name);
+    put(line, a, b"\t")
+}
+
+fn put_line(line: &mut [u8], name: &[u8], head: &[u8], tail: &[u8]) -> usize {
+    let a = put_lead(line, name);
+    let b = put(line, a, head);
+    let c = put(line, b, tail);
+    put(line, c, b"\n")
+}
+
+// A line to standard output, led by a name. It is written by one call, so that the lines of several processes do not
+// mix.
+pub fn print_line(name: &[u8], head: &[u8], tail: &[u8]) -> bool {
+    let mut line = [0u8; LINE];
+    let n = put_line(&mut line, name, head, tail);
+    write(&line, n)
+}
+
+// A line to standard error, likewise.
+pub fn tell_line(name: &[u8], head: &[u8], tail: &[u8]) {
+    let mut line = [0u8; LINE];
+    let n = put_line(&mut line, name, head, tail);
+    tell(&line, n);
+}
+
+// The line of a refusal: what stands before it, and its number and words.
+pub fn tell_refusal(name: &[u8], head: &[u8], number: u8) {
+    let mut text = [0u8; refusals::ROOM];
+    let k = refusals::text(number, &mut text);
+    tell_line(name, head, &text[..k]);
+}
+
+// The line of a refusal, with a place behind the words.
+pub fn tell_refusal_at(name: &[u8], number: u8, what: &[u8], place: u64) {
+    let mut text = [0u8; 128];
+    let a = put_refusal(&mut text, 0, number);
+    let b = put(&mut text, a, what);
+    let mut digits = [0u8; 20];
+    let k = io::decimal(place, &mut digits);
     let start = 0usize;
-    let end = least(n, line.len());
+    let end = least(b, 128);
+    tell_line(name, &text[start..end], &digits[..k]);
+}
+
+// What failed with a named file, and why the last call failed.
+pub fn tell_why(name: &[u8], what: &[u8]) {
+    let mut line = [0u8; LINE];
+    let a = put_lead(&mut line, name);
+    let b = put(&mut line, a, what);
+    let start = 0usize;
+    let end = least(b, LINE);
     os::fail(&line[start..end]);
 }
 
-// A window over what is read: the bytes from `at` up to `end` of its buffer wait. `ended` says that no more will come, `failed`
-// that a read failed.
+// A window over what is read: the bytes from `at` up to `end` of its buffer wait. `ended` says that no more will
+// come, `failed` that a read failed.
 pub struct Window {
     pub at: usize,
     pub end: usize,

@@ -1,4 +1,5 @@
--- `refusals::put` meets its contract. The loop's invariant: what is still to come, written behind what was, gives the whole sentence. Assumes nothing.
+-- `refusals::put` meets its contract. The loop's invariant: what is still to come, written behind what was, gives the
+-- whole sentence. Assumes nothing.
 use mathlib.Core.Path.{_≡_, sym, ap, _∙_}
 use Prim.Native.Nat.{ℕ, _≤_, _+_, _-_}
 use native.Mathlib.Nat.{add-zero}
@@ -33,7 +34,10 @@ add-result c = omega arith
 returns : tie.Need-returns Inv-loop μ-loop
 returns c =
     let at = c .before .before .before in
-    put-whole _ _ _ _ _ _ (sentence-stops (now (at .before .args .piece)) (at .loop .k) (c .before .before .loop-test .taken) (c .if1 .taken)) (at .loop .inv .1) (at .loop .inv .2)
+    let taken = c .before .before .loop-test .taken in
+    put-whole _ _ _ _ _ _ (sentence-stops (now (at .before .args .piece)) (at .loop .k) taken (c .if1 .taken))
+    (at .loop .inv .1)
+    (at .loop .inv .2)
 
 shared-slice-read-out : tie.Need-shared-slice-read-out Inv-loop μ-loop
 shared-slice-read-out c = omega arith
@@ -69,7 +73,9 @@ returns-2 c =
     let at = c .before in
     let piece = now (at .before .args .piece) in
     let e : at .loop .k ≡ length piece = omega arith in
-    put-whole _ _ _ _ _ _ (ap (λ (k : ℕ). sentence (drop k piece)) e ∙ sentence-ends piece) (at .loop .inv .1) (at .loop .inv .2)
+    put-whole _ _ _ _ _ _ (ap (λ (k : ℕ). sentence (drop k piece)) e ∙ sentence-ends piece)
+    (at .loop .inv .1)
+    (at .loop .inv .2)
 
 pub put-spec : {M : Type 1} → statement M
 put-spec =

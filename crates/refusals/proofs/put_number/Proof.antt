@@ -14,7 +14,9 @@ put-requires : tie.Need-put-requires
 put-requires c κs = search needs
 
 returns : tie.Need-returns
-returns c = one-digit _ _ _ _ _ _ (c .before .before .before .if1 .taken) (c .before .before .before .before .digit .ensures) (c .put .ensures)
+returns c =
+    let one = c .before .before .before in
+    one-digit _ _ _ _ _ _ (one .if1 .taken) (one .before .digit .ensures) (c .put .ensures)
 
 digit-requires-2 : tie.Need-digit-requires-2
 digit-requires-2 c κs = search needs
@@ -28,7 +30,10 @@ put-requires-2 c κs = search needs
 returns-2 : tie.Need-returns-2
 returns-2 c =
     let two = c .before .before .before in
-    two-digits _ _ _ _ _ _ _ (two .before .before .if1 .left) (two .if2 .taken) (two .before .digit2 .ensures) (two .before .before .before .digit .ensures) (c .put2 .ensures)
+    let one = two .before .before in
+    two-digits _ _ _ _ _ _ _ (one .if1 .left) (two .if2 .taken) (two .before .digit2 .ensures)
+    (one .before .digit .ensures)
+    (c .put2 .ensures)
 
 digit-requires-3 : tie.Need-digit-requires-3
 digit-requires-3 c κs = search needs
@@ -43,7 +48,11 @@ returns-3 : tie.Need-returns-3
 returns-3 c =
     let three = c .before .before .before in
     let two = three .before .before in
-    three-digits _ _ _ _ _ _ _ _ (two .before .if1 .left) (three .before .if2 .left) (three .digit3 .ensures) (two .digit2 .ensures) (two .before .before .digit .ensures) (c .put3 .ensures)
+    let one = two .before in
+    three-digits _ _ _ _ _ _ _ _ (one .if1 .left) (three .before .if2 .left) (three .digit3 .ensures)
+    (two .digit2 .ensures)
+    (one .before .digit .ensures)
+    (c .put3 .ensures)
 
 pub put-number-spec : {M : Type 1} → statement M
 put-number-spec =

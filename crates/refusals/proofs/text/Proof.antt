@@ -23,11 +23,24 @@ slice-aggregate-put-2 c = search needs
 
 put-requires-2 : tie.Need-put-requires-2
 unfolding sentence
-put-requires-2 c κs = omega (arith, c .before .before .before .before .put .ensures .place, c .before .before .put-number .ensures .place, decimal-size (c .before .before .before .before .before .before .before .args .number))
+put-requires-2 c κs =
+    let first = c .before .before .before .before in
+    let number = first .before .before .before .args .number in
+    omega (arith, first .put .ensures .place, c .before .before .put-number .ensures .place, decimal-size number)
 
 put-row-requires : tie.Need-put-row-requires
 unfolding sentence
-put-row-requires c κs = omega (arith, c .before .before .before .before .before .before .before .before .put .ensures .place, c .before .before .before .before .before .before .put-number .ensures .place, c .before .before .before .put2 .ensures .place, decimal-size (c .before .before .before .before .before .before .before .before .before .before .before .args .number))
+put-row-requires c κs =
+    let second = c .before .before .before in
+    let number = second .before .before .before in
+    let first = number .before .before in
+    omega (
+      arith,
+      first .put .ensures .place,
+      number .put-number .ensures .place,
+      second .put2 .ensures .place,
+      decimal-size (first .before .before .before .args .number),
+    )
 
 returns : tie.Need-returns
 unfolding letters sentence words rows

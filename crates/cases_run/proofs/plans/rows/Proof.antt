@@ -7,10 +7,10 @@ use Rattle.cases_run.proofs.plans.rows.Statement.{statement}
 use Rattle.cases_run.proofs.plans.rows.Tie as tie
 
 abbrev Inv-loop : tie.InvT-loop
-Inv-loop operators table start₀ start = start ≤ length table
+Inv-loop going operators table start₀ start = start ≤ length table
 
 abbrev μ-loop : tie.MeasureT-loop
-μ-loop operators table start₀ start = length table - start
+μ-loop going operators table start₀ start = length table - start
 
 loop-holds : tie.Need-loop-holds Inv-loop μ-loop
 loop-holds c = omega arith

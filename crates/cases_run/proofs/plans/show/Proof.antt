@@ -5,6 +5,9 @@ use borrow.Author.Needs.{needs}
 use Rattle.cases_run.proofs.plans.show.Statement.{statement}
 use Rattle.cases_run.proofs.plans.show.Tie as tie
 
+returns : tie.Need-returns
+returns c = search needs
+
 print-requires : tie.Need-print-requires
 print-requires c κs = search needs
 
@@ -17,15 +20,16 @@ slice-aggregate-write c = printed-part _ _ _ _ refl (c .before .print .ensures)
 write-requires : tie.Need-write-requires
 write-requires c κs = search needs
 
-returns : tie.Need-returns
-returns c = search needs
+returns-2 : tie.Need-returns-2
+returns-2 c = search needs
 
 pub show-spec : {M : Type 1} → statement M
 show-spec =
     tie.close
     (tie.spec
+    returns
     print-requires
     array-share-prefix-out
     slice-aggregate-write
     write-requires
-    returns)
+    returns-2)

@@ -16,7 +16,9 @@ returns : tie.Need-returns
 returns c = search needs
 
 print-bank-requires : tie.Need-print-bank-requires
-print-bank-requires c κs = sound-length (now (c .before .before .before .before .args .dump)) (sym (c .before .validate .ensures) ∙ c .if1 .left)
+print-bank-requires c κs =
+    let number = c .before in
+    sound-length (now (number .before .before .before .args .dump)) (sym (number .validate .ensures) ∙ c .if1 .left)
 
 returns-2 : tie.Need-returns-2
 returns-2 c = search needs
