@@ -1,19 +1,19 @@
-// Reads a script of calls from standard input and writes every answer to standard output, in the
-// format of docs/ORACLE.md. The script is streamed: what is held is one buffer of it and one of
-// answers.
-ghost use mathlib.Core.Path.{_≡_};
-ghost use Prim.Native.Nat.{_≤_, min};
+// Reads a script of calls from standard input and writes every answer to standard output, in the format of
+// docs/ORACLE.md. The last line says how the script ended, and standard error gets that line too where it did not end
+// behind a whole call. The script is streamed: what is held is one buffer of it and one of answers.
+ghost use Prim.Native.Nat.{_≤_};
 ghost use lib.ListN.{length};
+use libc::STDIN_FILENO;
+use streams::Window;
 
 mod calls;
 
 // Every answer fits in this many bytes.
 const ROOM: usize = 24576;
 
-// How far a run has come: the bytes of the script at the buffer's start that wait for more, the
-// calls answered, and whether it goes on.
+// How far a run has come: the window over the script, the calls answered, and whether it goes on.
 struct Run {
-    held: usize,
+    window: Window,
     calls: u64,
     going: bool,
 }
@@ -25,12 +25,6 @@ struct Progress {
     put: usize,
     calls: u64,
     unknown: bool,
-}
-
-fn least(a: usize, b: usize) -> usize
-    ensures { λ r. ⌜ r ≡ min a b ⌝ }
-{
-    if a < b { a } else { b }
 }
 
 // Answers the whole calls of the script while the answers have room.
@@ -51,8 +45,8 @@ fn answer_all(script: &[u8], registers: &mut [u8], answers: &mut [u8], before: u
                 unknown: one.unknown,
             };
         }
-        at += least(read, script.len() - at);
-        put += least(one.wrote, answers.len() - put);
+        at += streams::least(read, script.len() - at);
+        put += streams::least(one.wrote, answers.len() - put);
         calls = std::num::wrapping_add_u64(calls, 1);
     }
     Progress {
@@ -63,48 +57,55 @@ fn answer_all(script: &[u8], registers: &mut [u8], answers: &mut [u8], before: u
     }
 }
 
-// Moves the bytes from `at` up to `end` to the buffer's start.
-fn keep(script: &mut [u8], at: usize, end: usize)
-    requires { ⌜ end ≤ length (now script) ⌝ }
-{
-    let mut i = at;
-    while i < end {
-        script[i - at] = script[i];
-        i += 1;
+// The line that a text and the number of a call make.
+fn put_line(line: &mut [u8], text: &[u8], at: usize, calls: u64) -> usize {
+    let a = streams::put(line, at, text);
+    let b = streams::put_decimal(line, a, calls);
+    streams::put(line, b, b"\n")
+}
+
+// The last line of a script that ended as it should not, on both streams.
+fn say_wrong(line: &[u8], n: usize) {
+    if streams::write(line, n) {
+        streams::tell(line, n);
     }
 }
 
 fn say_ended(calls: u64) {
-    io::write_all(1, b"script ended after ");
-    io::print_decimal(1, calls);
-    io::write_all(1, b" calls\n");
+    let mut line = [0u8; 80];
+    let a = streams::put(&mut line, 0, b"script ended after ");
+    let b = streams::put_decimal(&mut line, a, calls);
+    let c = streams::put(&mut line, b, b" calls\n");
+    streams::write(&line, c);
 }
 
 fn say_cut_short(calls: u64) {
-    io::write_all(1, b"script cut short in call ");
-    io::print_decimal(1, std::num::wrapping_add_u64(calls, 1));
-    io::write_all(1, b"\n");
+    let mut line = [0u8; 80];
+    let n = put_line(
+        &mut line,
+        b"script cut short in call ",
+        0,
+        std::num::wrapping_add_u64(calls, 1),
+    );
+    say_wrong(&line, n);
 }
 
 fn say_unknown(entry: u8, calls: u64) {
-    io::write_all(1, b"script names unknown entry ");
-    io::print_decimal(1, entry as u64);
-    io::write_all(1, b" in call ");
-    io::print_decimal(1, std::num::wrapping_add_u64(calls, 1));
-    io::write_all(1, b"\n");
+    let mut line = [0u8; 80];
+    let a = streams::put(&mut line, 0, b"script names unknown entry ");
+    let b = streams::put_decimal(&mut line, a, entry as u64);
+    let n = put_line(
+        &mut line,
+        b" in call ",
+        b,
+        std::num::wrapping_add_u64(calls, 1),
+    );
+    say_wrong(&line, n);
 }
 
-// Reads behind the bytes held, and answers where the script then ends in the buffer.
-fn read_behind(script: &mut [u8], held: usize) -> usize
-    requires { ⌜ held ≤ length (now script) ⌝ }
-    ensures { λ r. ⌜ (held ≤ r) × (r ≤ length (now (script .exit))) ⌝ }
-{
-    held + io::read_full(0, &mut script[held..])
-}
-
-// Whether the run is over, which is then said: the next call names no entry, or nothing more was
-// read and either nothing is left or what is left is no whole call.
-fn is_over(script: &[u8], done: Progress, more: bool, end: usize) -> bool {
+// Whether the run is over, which is then said: the next call names no entry, or nothing more was read and either
+// nothing is left or what is left is no whole call.
+fn is_over(script: &[u8], done: Progress, more: bool) -> bool {
     if done.unknown {
         say_unknown(judge_wire::byte(script, done.at), done.calls);
         return true;
@@ -112,7 +113,7 @@ fn is_over(script: &[u8], done: Progress, more: bool, end: usize) -> bool {
     if more {
         return false;
     }
-    if done.at == end {
+    if done.at == script.len() {
         say_ended(done.calls);
         return true;
     }
@@ -123,37 +124,61 @@ fn is_over(script: &[u8], done: Progress, more: bool, end: usize) -> bool {
     false
 }
 
-// Writes the first bytes of the answers, and says whether they could be written.
-fn send(answers: &[u8], put: usize) -> bool {
-    io::write_all(1, judge_wire::start(answers, put))
+// Answers the whole calls of what was read, and sends the answers.
+fn answer_window(
+    script: &[u8],
+    registers: &mut [u8],
+    answers: &mut [u8],
+    w: Window,
+    calls: u64,
+) -> Run {
+    let done = answer_all(script, registers, answers, calls);
+    if !streams::write(answers, done.put) {
+        return Run {
+            window: w,
+            calls,
+            going: false,
+        };
+    }
+    let over = is_over(script, done, !w.ended);
+    let window = Window {
+        at: done.at,
+        end: w.end,
+        ended: w.ended,
+        failed: w.failed,
+    };
+    Run {
+        window,
+        calls: done.calls,
+        going: !over,
+    }
 }
 
 // Reads what there is, answers its whole calls and keeps the rest.
 fn turn(script: &mut [u8], registers: &mut [u8], answers: &mut [u8], run: Run) -> Run {
-    let held = least(run.held, script.len());
-    let end = read_behind(script, held);
-    let done = answer_all(
-        judge_wire::start(script, end),
+    let w = streams::refill(STDIN_FILENO, script, run.window);
+    if w.failed {
+        os::fail(b"standard input");
+        return Run {
+            window: w,
+            calls: run.calls,
+            going: false,
+        };
+    }
+    answer_window(
+        judge_wire::start(script, w.end),
         registers,
         answers,
+        w,
         run.calls,
-    );
-    let sent = send(answers, done.put);
-    let over = is_over(script, done, held < end, end);
-    let at = least(done.at, end);
-    keep(script, at, end);
-    Run {
-        held: end - at,
-        calls: done.calls,
-        going: sent && !over,
-    }
+    )
 }
 
-// Turns until the script is over. Nothing says that the input ends, so turns are counted down, from
-// a number that no run uses up.
+// Turns until the script is over. Nothing says that the input ends, so turns are counted down, from a number that no
+// run uses up.
 fn replay(script: &mut [u8], registers: &mut [u8], answers: &mut [u8]) {
     let mut run = Run {
-        held: 0,
+        window: streams::closed(),
         calls: 0,
         going: true,
     };

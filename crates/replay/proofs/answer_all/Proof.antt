@@ -8,7 +8,11 @@ use Rattle.replay.proofs.answer_all.Statement.{statement}
 use Rattle.replay.proofs.answer_all.Tie as tie
 
 abbrev Inv-loop : tie.InvT-loop
-Inv-loop script registers₀ answers₀ before at₀ put₀ calls₀ registers answers at put calls = (length registers ≡ length registers₀) × (length answers ≡ length answers₀) × (at ≤ length script) × (put ≤ length answers₀)
+Inv-loop script registers₀ answers₀ before at₀ put₀ calls₀ registers answers at put calls =
+    (length registers ≡ length registers₀)
+    × (length answers ≡ length answers₀)
+    × (at ≤ length script)
+    × (put ≤ length answers₀)
 
 abbrev μ-loop : tie.MeasureT-loop
 μ-loop script registers₀ answers₀ before at₀ put₀ calls₀ registers answers at put calls = length script - at

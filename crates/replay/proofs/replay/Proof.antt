@@ -7,7 +7,10 @@ use Rattle.replay.proofs.replay.Statement.{statement}
 use Rattle.replay.proofs.replay.Tie as tie
 
 abbrev Inv-loop : tie.InvT-loop
-Inv-loop script₀ registers₀ answers₀ run₀ turns₀ script registers answers run turns = (length script ≡ length script₀) × (length registers ≡ length registers₀) × (length answers ≡ length answers₀)
+Inv-loop script₀ registers₀ answers₀ run₀ turns₀ script registers answers run turns =
+    (length script ≡ length script₀)
+    × (length registers ≡ length registers₀)
+    × (length answers ≡ length answers₀)
 
 abbrev μ-loop : tie.MeasureT-loop
 μ-loop script₀ registers₀ answers₀ run₀ turns₀ script registers answers run turns = turns
