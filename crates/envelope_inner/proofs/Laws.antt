@@ -1,5 +1,5 @@
--- What an envelope keeps: a render goes to a stage that there is and moves nothing but stage, phase and start, and setting
--- changes nothing but increments and levels. Assumes nothing.
+-- What an envelope keeps: a render goes to a stage that there is and moves nothing but stage, phase and start, and
+-- setting changes nothing but increments and levels. Assumes nothing.
 use mathlib.Core.Path.{_≡_, refl, _∙_, ap}
 use mathlib.Core.Bool.{Bool, true, false, cond}
 use mathlib.Core.List.{List}

@@ -1,5 +1,5 @@
--- What the scrub answers, by its tests: past the gate's end it asks itself once, however many calls are allowed, and past all stages it hands back the level
--- itself. Assumes nothing.
+-- What the scrub answers, by its tests: past the gate's end it asks itself once, however many calls are allowed, and
+-- past all stages it hands back the level itself. Assumes nothing.
 use mathlib.Core.Path.{_≡_, refl}
 use mathlib.Core.Bool.{Bool, true, false}
 use Prim.Native.Nat.{ℕ, zero, suc, _-_, _*_}

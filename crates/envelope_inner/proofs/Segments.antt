@@ -1,4 +1,5 @@
--- A rising operator segment whose ends are both below 6.7 yields 6.7, at every phase that bends to a finite number. Assumes nothing.
+-- A rising operator segment whose ends are both below 6.7 yields 6.7, at every phase that bends to a finite number.
+-- Assumes nothing.
 use mathlib.Core.Path.{_≡_, refl}
 use mathlib.Core.Bool.{Bool, true, false}
 use Prim.Native.Nat.{ℕ, _*_}

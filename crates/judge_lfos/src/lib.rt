@@ -96,7 +96,7 @@ fn lfo(s: &[u8], at: u8) -> Lfo {
     let b = judge_wire::four(s, place + 16);
     let amp_mod_depth = judge_wire::float(s, place + 32);
     let pitch_mod_depth = judge_wire::float(s, place + 36);
-    let waveform = waveform(judge_wire::byte(s, at as usize + 40));
+    let waveform = lfo_inner::waveform_from(judge_wire::byte(s, at as usize + 40));
     let reset_phase = judge_wire::byte(s, at as usize + 41) != 0;
     let phase_integral = judge_wire::signed(s, place + 42);
     Lfo {
@@ -112,17 +112,6 @@ fn lfo(s: &[u8], at: u8) -> Lfo {
         waveform,
         reset_phase,
         phase_integral,
-    }
-}
-
-fn waveform(n: u8) -> Waveform {
-    match n {
-        1 => Waveform::RampDown,
-        2 => Waveform::RampUp,
-        3 => Waveform::Square,
-        4 => Waveform::Sine,
-        5 => Waveform::SAndH,
-        _ => Waveform::Triangle,
     }
 }
 

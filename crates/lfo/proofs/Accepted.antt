@@ -1,5 +1,5 @@
--- An accepted step, scrub or reset leaves a state that 9 accepts, and so does setting where the product of its frequencies is finite and not negative,
--- as it is for a sample rate from 8,000 to 192,000. Assumes nothing.
+-- An accepted step, scrub or reset leaves a state that 9 accepts, and so does setting where the product of its
+-- frequencies is finite and not negative, as it is for a sample rate from 8,000 to 192,000. Assumes nothing.
 use mathlib.Core.Path.{_≡_, refl, sym, subst}
 use mathlib.Core.Bool.{Bool, true, false, _&&_, cond}
 use mathlib.Core.List.{List}

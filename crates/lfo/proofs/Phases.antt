@@ -1,5 +1,5 @@
--- Phases from 0 up to 1: the sum of two, less 1 where it reaches 1, is one again, and so is a product below 2 ^ 31 less its whole part. Each rounding
--- keeps the order, and the largest f32 below 1 is 1 - 2 ^ -24. Assumes nothing.
+-- Phases from 0 up to 1: the sum of two, less 1 where it reaches 1, is one again, and so is a product below 2 ^ 31 less
+-- its whole part. Each rounding keeps the order, and the largest f32 below 1 is 1 - 2 ^ -24. Assumes nothing.
 use mathlib.Core.Path.{_≡_, refl, sym, _∙_, ap, subst}
 use mathlib.Core.Bool.{Bool, true, false, _&&_, _||_, cond}
 use Prim.Native.Nat.{ℕ, zero, suc, _+_, _-_, _*_, _/_, _%_, _^_, _≤_, _<_, min}

@@ -1,5 +1,5 @@
--- A fresh LFO is valid, every call leaves a valid LFO valid, accepted or refused, and none of its answers is a 9. A sequence in two parts is the second
--- part from where the first ends. Assumes nothing.
+-- A fresh LFO is valid, every call leaves a valid LFO valid, accepted or refused, and none of its answers is a 9. A
+-- sequence in two parts is the second part from where the first ends. Assumes nothing.
 use mathlib.Core.Path.{_≡_, refl, sym, ap, subst}
 use mathlib.Core.Bool.{Bool, true, false, not, cond}
 use mathlib.Core.List.{List, [], _∷_, _++_}

@@ -22,7 +22,7 @@ pub enum Waveform {
 }
 
 // A number that is no wave's is a triangle's.
-fn waveform_from(n: u8) -> Waveform
+pub fn waveform_from(n: u8) -> Waveform
     ensures { λ r. ⌜ r ≡ waveformOf n ⌝ }
 {
     match n {

@@ -1,5 +1,5 @@
--- `envelope_inner::reach` meets its contract. The loop's invariant: from here on the walk ends where the whole one does. The measure is the number of
--- stages left. Assumes nothing.
+-- `envelope_inner::reach` meets its contract. The loop's invariant: from here on the walk ends where the whole one
+-- does. The measure is the number of stages left. Assumes nothing.
 use mathlib.Core.Path.{_≡_, refl, sym, _∙_}
 use Prim.Native.Nat.{_+_, _-_, _≤_}
 use lib.Ieee.{round, ofBits}

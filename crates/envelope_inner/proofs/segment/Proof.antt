@@ -1,4 +1,5 @@
--- `envelope_inner::segment` meets its contract: each return is what the definition picks under the tests that led there. Assumes nothing.
+-- `envelope_inner::segment` meets its contract: each return is what the definition picks under the tests that led
+-- there. Assumes nothing.
 use borrow.Author.Tests.{not-true, not-false}
 use lib.Ieee.{round, ofBits}
 use Rattle.numbers.specs.F32.{decimal}

@@ -31,10 +31,18 @@ int-to-float-t12 c = search needs
 returns : tie.Need-returns
 unfolding adjusted decimal ofBits
 returns c =
-    let f = c .before .before .before .before in
-    let s = f .before .before .before .before .before .before in
-    let held : mag (s .args .lfo .«phase_integral») < 2 ^ 31 = omega (arith, c .struct-told .given) in
-    simp (f .lfo-frequency .ensures, f .before .waveform-from .ensures, f .before .before .before .before .pitch-mod-sensitivity .ensures, f .before .before .before .before .before .lfo-delay .ensures, back (s .args .lfo .«phase_integral») held)
+    let told = c .before .before .before .before in
+    let sensed = told .before .before .before .before in
+    let delayed = sensed .before in
+    let lfo = delayed .before .args .lfo in
+    let held : mag (lfo .«phase_integral») < 2 ^ 31 = omega (arith, c .struct-told .given) in
+    simp (
+      told .lfo-frequency .ensures,
+      told .before .waveform-from .ensures,
+      sensed .pitch-mod-sensitivity .ensures,
+      delayed .lfo-delay .ensures,
+      back (lfo .«phase_integral») held,
+    )
 
 pub set-spec : {M : Type 1} → statement M
 set-spec =
