@@ -133,8 +133,8 @@ module _ (operators : ℕ) (row : List ℕ) (plan : Plan) where
       → false ≡ isPlanOf operators row plan
   unfolding isPlanOf
   no-plan-of number at h e =
-      sym (ap (λ (b : Bool). b && samePlan plan noPlan) h) ∙ ap
-      (λ (q : Planned). eqb (q .number) 0 && samePlan plan (q .plan)) e
+      sym (ap (λ (b : Bool). b && samePlan plan noPlan) h)
+      ∙ ap (λ (q : Planned). eqb (q .number) 0 && samePlan plan (q .plan)) e
 
   -- at the row's end the plan is the one so far, or another
   pub whole-plan : (p : Plan) → record {

@@ -1,5 +1,5 @@
 -- The sum and the largest of some bytes, byte by byte, and what the checksum is. Assumes nothing.
-use mathlib.Core.Path.{_≡_, _∙_, ap}
+use mathlib.Core.Path.{_≡_, refl, _∙_, ap}
 use mathlib.Core.Bool.{Bool, true, false, _&&_, and-false, and-eq-true-iff}
 use mathlib.Core.List.{List, [], _∷_, _++_}
 use Prim.Native.Nat.{ℕ, _+_, _-_, _%_, _<_, _≤_, max}
@@ -34,8 +34,8 @@ module _ (bytes : List ℕ) (c : ℕ) where
   pub too-high : 127 < c → summed bytes c ≡ false
   unfolding summed
   too-high h =
-      ap (λ (b : Bool). eqb ((total bytes + c) % 128) 0 && b) (le-ltb c 128 (omega arith)) ∙ and-false
-      (eqb ((total bytes + c) % 128) 0)
+      ap (λ (b : Bool). eqb ((total bytes + c) % 128) 0 && b) (le-ltb c 128 (omega arith))
+      ∙ and-false (eqb ((total bytes + c) % 128) 0)
 
   pub not-summed : (sum : ℕ) → sum ≡ total bytes % 128 → ((sum + c) % 128 ≡ 0 → ⊥) → summed bytes c ≡ false
   unfolding summed
@@ -45,15 +45,13 @@ module _ (bytes : List ℕ) (c : ℕ) where
   unfolding summed
   is-summed sum e h z = rw (eq-eqb ((total bytes + c) % 128) 0 (omega arith)) (lt-ltb c 128 (omega arith))
 
-  -- the checksum is the one number that is so
-  pub checksum-summed : summed bytes (checksumOf bytes) ≡ true
-  unfolding summed checksumOf
-  checksum-summed =
-      rw (eq-eqb ((total bytes + (128 - total bytes % 128) % 128) % 128) 0 (omega arith))
-      (lt-ltb ((128 - total bytes % 128) % 128) 128 (omega arith))
+-- the checksum is the one number that is so
+pub checksum-summed : (bytes : List ℕ) → summed bytes (checksumOf bytes) ≡ true
+unfolding checksumOf
+checksum-summed bytes = is-summed bytes (checksumOf bytes) (total bytes % 128) refl (omega arith) (omega arith)
 
-  pub summed-checksum : summed bytes c ≡ true → c ≡ checksumOf bytes
-  unfolding summed checksumOf
-  summed-checksum e =
-      let p = and-eq-true-iff (eqb ((total bytes + c) % 128) 0) (ltb c 128) .0 e in
-      omega (arith, eqb-true ((total bytes + c) % 128) 0 (p .0), ltb-true c 128 (p .1))
+pub summed-checksum : (bytes : List ℕ) (c : ℕ) → summed bytes c ≡ true → c ≡ checksumOf bytes
+unfolding summed checksumOf
+summed-checksum bytes c e =
+    let p = and-eq-true-iff (eqb ((total bytes + c) % 128) 0) (ltb c 128) .0 e in
+    omega (arith, eqb-true ((total bytes + c) % 128) 0 (p .0), ltb-true c 128 (p .1))

@@ -19,8 +19,8 @@ module _ {N : Type 0} (field : N → Field) (g : N → ℕ) where
   unfolding within
   within-append [] ys = refl
   within-append (x ∷ xs) ys =
-      ap (λ (b : Bool). leb (g x) (field x .largest) && b) (within-append xs ys) ∙ sym
-      (and-assoc (leb (g x) (field x .largest)) (within field g xs) (within field g ys))
+      ap (λ (b : Bool). leb (g x) (field x .largest) && b) (within-append xs ys)
+      ∙ sym (and-assoc (leb (g x) (field x .largest)) (within field g xs) (within field g ys))
 
 -- an operator's limits, by its parts
 pub operator-fits : (o : Operator)

@@ -140,8 +140,8 @@ block : (p : Patch) (k : ℕ)
     → bytesOf fieldOf (numberOf p) (map (Of k) operatorNames) (k * 17) 17 ≡ operatorBytes (operatorAt (p .op) k)
 unfolding operatorBytes fieldOf numberOf
 block p k =
-    ap (λ (x : ℕ). bytesOf fieldOf (numberOf p) (map (Of k) operatorNames) x 17) (sym (add-zero (k * 17))) ∙ bytes-later
-    operatorField fieldOf (numberOf p) (Of k) (k * 17) (λ m. refl) operatorNames 17 0
+    ap (λ (x : ℕ). bytesOf fieldOf (numberOf p) (map (Of k) operatorNames) x 17) (sym (add-zero (k * 17)))
+    ∙ bytes-later operatorField fieldOf (numberOf p) (Of k) (k * 17) (λ m. refl) operatorNames 17 0
 
 join : {a b c d : List ℕ} → a ≡ b → c ≡ d → a ++ c ≡ b ++ d
 join e f = rw (e, f)

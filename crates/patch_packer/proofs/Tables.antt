@@ -39,8 +39,8 @@ module _ {N : Type 0} (field : N → Field) (g : N → ℕ) where
           → cond b (placed (field x) (g x) + byteOf field g (xs ++ ys) k) (byteOf field g (xs ++ ys) k)
           ≡ cond b (placed (field x) (g x) + byteOf field g xs k) (byteOf field g xs k) + byteOf field g ys k
       at true e =
-          ap (λ (y : ℕ). placed (field x) (g x) + y) e ∙ sym
-          (add-assoc (placed (field x) (g x)) (byteOf field g xs k) (byteOf field g ys k))
+          ap (λ (y : ℕ). placed (field x) (g x) + y) e
+          ∙ sym (add-assoc (placed (field x) (g x)) (byteOf field g xs k) (byteOf field g ys k))
       at false e = e
 
   -- a byte where no field lies is 0

@@ -27,7 +27,9 @@ part-result-end c = search needs
 
 returns : tie.Need-returns
 unfolding slotOf
-returns c = let e : 6 + c .before .args .slot * 128 + 128 - (6 + c .before .args .slot * 128) ≡ 128 = omega arith in rw e
+returns c =
+    let e : 6 + c .before .args .slot * 128 + 128 - (6 + c .before .args .slot * 128) ≡ 128 = omega arith in
+    rw e
 
 pub slot-part-spec : {M : Type 1} → statement M
 slot-part-spec =
