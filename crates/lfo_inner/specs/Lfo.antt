@@ -1,5 +1,5 @@
--- The LFO, after lfo.rs and in its order: one rounding per written operation, in the Rust's order. `isSine` and
--- `storing` say how the code computes; all others are to be believed. Definitions only.
+-- The LFO, after lfo.rs and in its order: one rounding per written operation, in the Rust's order. `isSine` says how
+-- the code computes; all others are to be believed. Definitions only.
 use mathlib.Core.Bool.{Bool, true, false, not, cond}
 use mathlib.Core.List.{List, [], _∷_}
 use Prim.Native.Nat.{ℕ}

@@ -157,7 +157,7 @@ fn wrap(phase: f32) -> f32
     phase
 }
 
-// The delay runs to a half by its first increment, on to 1 by its second, and stays there.
+// The delay's phase goes to a half by its first increment, on to 1 by its second, and stays there.
 fn delay_step(delay_phase: f32, first: f32, second: f32, scale: f32) -> f32
     ensures { λ r. ⌜ r ≡ delayStepped «delay_phase» first second scale ⌝ }
 {
@@ -221,7 +221,7 @@ fn differs(a: i32, b: i32) -> bool
     a != b
 }
 
-// The same from 0 on: past a half, the samples beyond it count by the second increment.
+// The delay's phase at a time from 0 on: past a half, the samples beyond it count by the second increment.
 fn delay_scrub(first: f32, second: f32, sample: f32) -> f32
     ensures { λ r. ⌜ r ≡ delayScrubbed first second sample ⌝ }
 {
@@ -308,7 +308,7 @@ fn is_sine(lfo: Lfo) -> bool
     }
 }
 
-// The waves that need no table, with any table; a sine is not asked for here.
+// The waves that need no table, so the same with any; a sine is not asked for here.
 fn plain_wave(lfo: Lfo) -> f32
     ensures { λ r. ⌜ ((lut : List Float) → isSine (lfo .waveform) ≡ false → r ≡ waveAt lut lfo) ⌝ }
 {
@@ -356,14 +356,14 @@ pub fn delay_ramp(lfo: Lfo) -> f32
     (delay_phase - 0.5) * 2.0
 }
 
-// By the stored value, so that a half of it bends nothing.
+// By the stored value: a half bends nothing.
 pub fn pitch_mod(lfo: Lfo) -> f32
     ensures { λ r. ⌜ r ≡ pitchModOf lfo ⌝ }
 {
     (lfo.value - 0.5) * delay_ramp(lfo) * lfo.pitch_mod_depth
 }
 
-// By the stored value, so that 1 dims nothing.
+// By the stored value: 1 dims nothing.
 pub fn amp_mod(lfo: Lfo) -> f32
     ensures { λ r. ⌜ r ≡ ampModOf lfo ⌝ }
 {
