@@ -10,16 +10,20 @@ use lib.Ieee.{Float}
 use Rattle.operator.specs.Sample.{mixed}
 use Rattle.operator.specs.Chain.{Source, Chain, heard, next, written}
 
-module _ (lut : List Float) (source : Source) where
-  pub length-written : (add : Bool) (i : ℕ) (s : Chain) (out : List Float) → length (written lut source add i s out) ≡ length out
+module _ (pairs : List Float) (source : Source) where
+  pub length-written : (add : Bool) (i : ℕ) (s : Chain) (out : List Float)
+      → length (written pairs source add i s out) ≡ length out
   unfolding written
   length-written add i s [] = refl
-  length-written add i s (there ∷ out) = ap suc (length-written add (suc i) (next lut source i s) out)
+  length-written add i s (there ∷ out) = ap suc (length-written add (suc i) (next pairs source i s) out)
 
   -- set ignores what stood there
-  pub set-ignores : (i : ℕ) (s : Chain) (out other : List Float) → length out ≡ length other → written lut source false i s out ≡ written lut source false i s other
+  pub set-ignores : (i : ℕ) (s : Chain) (out other : List Float) → length out ≡ length other
+      → written pairs source false i s out ≡ written pairs source false i s other
   unfolding written mixed
   set-ignores i s [] [] e = refl
   set-ignores i s [] (p ∷ other) e = absurd (suc-ne-zero _ (sym e))
   set-ignores i s (o ∷ out) [] e = absurd (suc-ne-zero _ e)
-  set-ignores i s (o ∷ out) (p ∷ other) e = ap (λ (l : List Float). heard lut source i s ∷ l) (set-ignores (suc i) (next lut source i s) out other (suc-inj e))
+  set-ignores i s (o ∷ out) (p ∷ other) e =
+      ap (λ (l : List Float). heard pairs source i s ∷ l)
+      (set-ignores (suc i) (next pairs source i s) out other (suc-inj e))

@@ -1,60 +1,85 @@
--- A loop that renders a chain over a slice: what holds at its head (`Rendering`), that it holds where the loop begins and
--- after a turn, and what it says at the end.
+-- A loop that renders a chain over a slice: that `Going` holds where the loop begins and after a turn, and what it says
+-- at the end.
 -- Assumes nothing.
 use mathlib.Core.Path.{_≡_, refl, sym, ap, _∙_}
 use Prim.Native.Nat.{ℕ, suc, _+_, _≤_, _<_}
 use native.Mathlib.Nat.{le-refl}
 use native.Mathlib.Numerals.{add-one}
 use mathlib.Core.Bool.{Bool}
-use mathlib.Core.List.{List, _∷_, _++_, append-nil}
-use lib.ListN.{length, take, drop, getD, set, length-set, drop-of-length-le}
+use mathlib.Core.List.{List, _∷_, append-nil}
+use lib.ListN.{length, drop, getD, set, length-set, drop-of-length-le}
 use lib.Seq.{take-all, take-suc-set, drop-set-lt, drop-cons, append-snoc}
 use lib.Ieee.{Float, nan}
 use Rattle.operator.specs.Sample.{mixed}
 use Rattle.operator.specs.Chain.{Source, Chain, entered, kept, through, allMoved, heard, next, ended, written}
+use Rattle.operator.specs.Chain.{Rendered}
+use Rattle.operator.specs.Parts.{Going}
 use Rattle.operator.specs.declared.Lane.{Lane}
 use Rattle.operator.specs.declared.Feedback.{Feedback}
 
-module _ (lut : List Float) (source : Source) (add : Bool) (s₀ : Chain) (out₀ : List Float) where
-  -- the samples before i are written, and what is still to come from here is what was to come at the start
-  pub record Rendering (i : ℕ) (s : Chain) (out : List Float) : Type 0 where
-    pub samples : take i out ++ written lut source add i s (drop i out) ≡ written lut source add 0 s₀ out₀
-    pub chains : ended lut source (length (drop i out)) i s ≡ ended lut source (length out₀) 0 s₀
-    pub size : length out ≡ length out₀
-
-  pub begin : Rendering 0 s₀ out₀
-  begin = record { samples = refl; chains = refl; size = refl }
-
-  pub written-more : (i : ℕ) (s : Chain) (out : List Float) → i < length out
-      → written lut source add i s (drop i out) ≡ mixed add (getD out i nan) (heard lut source i s) ∷ written lut source add (suc i) (next lut source i s) (drop (suc i) out)
+-- one sample more
+module _ (pairs : List Float) (source : Source) (add : Bool) where
+  written-more : (i : ℕ) (s : Chain) (out : List Float) → i < length out
+      → written pairs source add i s (drop i out)
+      ≡ mixed add (getD out i nan) (heard pairs source i s) ∷ written pairs source add (suc i) (next pairs source i s)
+      (drop (suc i) out)
   unfolding written
-  written-more i s out h = ap (written lut source add i s) (drop-cons out i nan h)
+  written-more i s out h = ap (written pairs source add i s) (drop-cons out i nan h)
 
-  pub ended-more : (i : ℕ) (s : Chain) (out : List Float) → i < length out
-      → ended lut source (length (drop i out)) i s ≡ ended lut source (length (drop (suc i) out)) (suc i) (next lut source i s)
+  ended-more : (i : ℕ) (s : Chain) (out : List Float) → i < length out
+      → ended pairs source (length (drop i out)) i s
+      ≡ ended pairs source (length (drop (suc i) out)) (suc i) (next pairs source i s)
   unfolding ended
-  ended-more i s out h = ap (λ (l : List Float). ended lut source (length l) i s) (drop-cons out i nan h)
+  ended-more i s out h = ap (λ (l : List Float). ended pairs source (length l) i s) (drop-cons out i nan h)
 
-  turn : {i : ℕ} {s s′ : Chain} {out : List Float} {v : Float} → Rendering i s out → i < length out
-      → s′ ≡ next lut source i s → v ≡ mixed add (getD out i nan) (heard lut source i s) → Rendering (i + 1) s′ (set out i v)
-  turn {i} {s} {s′} {out} {v} r h es ev = record {
-    samples = rw (add-one i, take-suc-set out i v h, drop-set-lt (suc i) out i v (le-refl (suc i)), append-snoc, es, ev, ← written-more i s out h) (r .samples);
-    chains = rw (add-one i, drop-set-lt (suc i) out i v (le-refl (suc i)), es, ← ended-more i s out h) (r .chains);
-    size = length-set out i v ∙ r .size;
+module _ {pairs : List Float} {source : Source} {add : Bool} where
+  pub going-first : {i : ℕ} {s : Chain} {out : List Float} → Going pairs source add i s out i s out
+  going-first = record { samples = refl; chains = refl; size = refl }
+
+  -- part after part
+  pub going-on : {i j k : ℕ} {s t u : Chain} {out mid after : List Float}
+      → Going pairs source add i s out j t mid → Going pairs source add j t mid k u after
+      → Going pairs source add i s out k u after
+  going-on g h = record {
+    samples = h .samples ∙ g .samples;
+    chains = h .chains ∙ g .chains;
+    size = h .size ∙ g .size;
   }
 
-  -- the same by the chain's parts, as a turn of the code makes them
-  pub turn-parts : {i : ℕ} {ls ls′ : List Lane} {f f′ : Feedback} {out : List Float} {pm v : Float}
-      → Rendering i (record { lanes = ls; feedback = f }) out → i < length out → pm ≡ through lut ls (entered source i f)
-      → ls′ ≡ allMoved ls → f′ ≡ kept source f pm → v ≡ mixed add (getD out i nan) pm
-      → Rendering (i + 1) (record { lanes = ls′; feedback = f′ }) (set out i v)
-  unfolding heard next
-  turn-parts r h ep el ef ev = turn r h (rw (el, ef, ep)) (rw (ev, ep))
+  pub going-turn : {i j : ℕ} {s t t′ : Chain} {out after : List Float} {v : Float}
+      → Going pairs source add i s out j t after → j < length after
+      → t′ ≡ next pairs source j t → v ≡ mixed add (getD after j nan) (heard pairs source j t)
+      → Going pairs source add i s out (j + 1) t′ (set after j v)
+  going-turn {j = j} {t = t} {after = after} {v = v} r h et ev =
+      let past = drop-set-lt (suc j) after j v (le-refl (suc j)) in
+      record {
+        samples = rw (
+          add-one j,
+          take-suc-set after j v h,
+          past,
+          append-snoc,
+          et,
+          ev,
+          ← written-more pairs source add j t after h,
+        ) (r .samples);
+        chains = rw (add-one j, past, et, ← ended-more pairs source add j t after h) (r .chains);
+        size = length-set after j v ∙ r .size;
+      }
 
-  pub done : {i : ℕ} {s : Chain} {out : List Float} → Rendering i s out → length out ≤ i
-      → (out ≡ written lut source add 0 s₀ out₀) × (s ≡ ended lut source (length out₀) 0 s₀)
+  -- the same by the chain's parts, as a turn of the code makes them
+  pub turn-parts : {i j : ℕ} {s : Chain} {ls ls′ : List Lane} {f f′ : Feedback} {out after : List Float} {pm v : Float}
+      → Going pairs source add i s out j (record { lanes = ls; feedback = f }) after → j < length after
+      → pm ≡ through pairs ls (entered source j f)
+      → ls′ ≡ allMoved ls → f′ ≡ kept source f pm → v ≡ mixed add (getD after j nan) pm
+      → Going pairs source add i s out (j + 1) (record { lanes = ls′; feedback = f′ }) (set after j v)
+  unfolding heard next
+  turn-parts r h ep el ef ev = going-turn r h (rw (el, ef, ep)) (rw (ev, ep))
+
+  -- the whole block
+  pub going-done : {j : ℕ} {s t : Chain} {out after : List Float}
+      → Going pairs source add 0 s out j t after → length after ≤ j → Rendered pairs source add s out t after
   unfolding written ended
-  done {i} {s} {out} r h = (
-    sym (append-nil out) ∙ (rw (take-all i out h, drop-of-length-le out h) at (r .samples)),
-    rw (drop-of-length-le out h) at (r .chains),
-  )
+  going-done {j = j} {after = after} r h = record {
+    samples = sym (append-nil after) ∙ (rw (take-all j after h, drop-of-length-le after h) at (r .samples));
+    chain = rw (drop-of-length-le after h) at (r .chains);
+  }

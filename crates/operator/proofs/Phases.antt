@@ -1,4 +1,5 @@
--- Phases by the book: after a part each operator's phase has moved on by the number of samples times its step, modulo 2 ^ 32.
+-- Phases by the book: after a part each operator's phase has moved on by the number of samples times its step, modulo 2
+-- ^ 32.
 -- Assumes nothing.
 use mathlib.Core.Path.{_≡_, refl, ap, _∙_}
 use Prim.Native.Nat.{ℕ, zero, suc, _+_, _*_, _%_, _^_, _<_}
@@ -26,18 +27,19 @@ moved-at [] k h = absurd (not-suc-le-zero h)
 moved-at (l ∷ ls) zero h = refl
 moved-at (l ∷ ls) (suc k) h = moved-at ls k (le-of-suc-le-suc h)
 
-module _ (lut : List Float) (source : Source) where
-  pub length-ended : (size i : ℕ) (s : Chain) → length (ended lut source size i s .lanes) ≡ length (s .lanes)
+module _ (pairs : List Float) (source : Source) where
+  pub length-ended : (size i : ℕ) (s : Chain) → length (ended pairs source size i s .lanes) ≡ length (s .lanes)
   unfolding ended next
   length-ended zero i s = refl
-  length-ended (suc size) i s = length-ended size (suc i) (next lut source i s) ∙ length-moved (s .lanes)
+  length-ended (suc size) i s = length-ended size (suc i) (next pairs source i s) ∙ length-moved (s .lanes)
 
   pub phase-ended : (size i : ℕ) (s : Chain) (k : ℕ) → k < length (s .lanes) → getD (s .lanes) k noLane .phase < 2 ^ 32
-      → getD (ended lut source size i s .lanes) k noLane .phase ≡ (getD (s .lanes) k noLane .phase + size * getD (s .lanes) k noLane .step) % 2 ^ 32
+      → getD (ended pairs source size i s .lanes) k noLane .phase
+      ≡ (getD (s .lanes) k noLane .phase + size * getD (s .lanes) k noLane .step) % 2 ^ 32
   unfolding ended next moved
   phase-ended zero i s k h f = omega (arith, zero-mul (getD (s .lanes) k noLane .step))
   phase-ended (suc size) i s k h f =
-      let t = next lut source i s in
+      let t = next pairs source i s in
       let l = getD (s .lanes) k noLane in
       let m = moved-at (s .lanes) k h in
       let p = ap (λ (l : Lane). l .phase) m in

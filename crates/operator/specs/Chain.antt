@@ -1,14 +1,12 @@
 -- A chain of operators over a block: what modulates it, one sample of it, and all of them. Definitions only.
-use Prim.Native.Nat.{ℕ, zero, suc, _+_, _<_}
+use Prim.Native.Nat.{ℕ, zero, suc}
 use mathlib.Core.Path.{_≡_}
-use mathlib.Core.Bool.{Bool, true, _&&_}
-use mathlib.Core.List.{List, [], _∷_, _++_}
-use lib.ListN.{getD, length, take, drop}
+use mathlib.Core.Bool.{Bool}
+use mathlib.Core.List.{List, [], _∷_}
+use lib.ListN.{getD, length}
 use lib.Ieee.{Float, nan}
 use Rattle.numbers.specs.F32.{decimal}
-use Rattle.numbers.specs.Words.{sum32}
-use Rattle.sine.specs.Sine.{nearBy, modulated}
-use Rattle.operator.specs.Sample.{sounded, moved, fed, pushed, mixed}
+use Rattle.operator.specs.Sample.{sampled, moved, fed, pushed, mixed}
 use Rattle.operator.specs.declared.Feedback.{Feedback}
 use Rattle.operator.specs.declared.Lane.{Lane}
 use Rattle.operator.specs.declared.Single.{Single}
@@ -39,28 +37,28 @@ three s = record { lanes = s .first ∷ s .second ∷ s .third ∷ []; feedback 
 unfoldable pub entered : Source → ℕ → Feedback → Float
 entered none i f = decimal 0 0
 entered (external modulation) i f = getD modulation i nan
-entered (feedback scale) i f = fed f scale
+entered (feedback feedback-scale) i f = fed f feedback-scale
 
 -- the feedback after a sample of the chain
 unfoldable pub kept : Source → Feedback → Float → Feedback
 kept none f pm = f
 kept (external modulation) f pm = f
-kept (feedback scale) f pm = pushed f pm
+kept (feedback feedback-scale) f pm = pushed f pm
 
 -- each operator's sample modulates the next
 unfoldable pub through : List Float → List Lane → Float → Float
-through lut [] pm = pm
-through lut (l ∷ ls) pm = through lut ls (sounded lut l pm)
+through pairs [] pm = pm
+through pairs (l ∷ ls) pm = through pairs ls (sampled pairs l pm)
 
 -- every operator, a sample further
 unfoldable pub allMoved : List Lane → List Lane
 allMoved [] = []
 allMoved (l ∷ ls) = moved l ∷ allMoved ls
 
-module _ (lut : List Float) (source : Source) where
+module _ (pairs : List Float) (source : Source) where
   -- sample i of the chain
   unfoldable pub heard : ℕ → Chain → Float
-  heard i s = through lut (s .lanes) (entered source i (s .feedback))
+  heard i s = through pairs (s .lanes) (entered source i (s .feedback))
 
   -- the chain after it
   unfoldable pub next : ℕ → Chain → Chain
@@ -76,24 +74,8 @@ module _ (lut : List Float) (source : Source) where
   written add i s [] = []
   written add i s (there ∷ out) = mixed add there (heard i s) ∷ written add (suc i) (next i s) out
 
--- ---- a block by parts
-
--- whether each modulation lies from -31 to 30 turns
-unfoldable pub allNear : List Float → Bool
-allNear [] = true
-allNear (pm ∷ pms) = nearBy pm && allNear pms
-
--- a phase so many steps on, wrapped
-unfoldable pub stepped : ℕ → ℕ → ℕ → ℕ
-stepped zero phase step = phase
-stepped (suc k) phase step = sum32 (stepped k phase step) step
-
--- the first n of `at` are the modulated phases from sample i on, of an operator that comes with this phase
-pub record Placed (modulation : List Float) (i n phase step : ℕ) (at : List ℕ) : Type 0 where
-  pub placed : (k : ℕ) → k < n → getD at k 0 ≡ modulated (stepped (k + 1) phase step) (getD modulation (i + k) nan)
-
--- what is written before sample i, and what is still to come from there, are all these samples; the chain will end like this
-pub record Going (lut : List Float) (source : Source) (add : Bool) (all : List Float) (end : Chain) (total i : ℕ) (s : Chain) (out : List Float) : Type 0 where
-  pub samples : take i out ++ written lut source add i s (drop i out) ≡ all
-  pub chains : ended lut source (length (drop i out)) i s ≡ end
-  pub size : length out ≡ total
+-- what each renderer promises: the chain s was rendered where `out` stood, and ends as e over `after`
+pub record Rendered (pairs : List Float) (source : Source) (add : Bool)
+    (s : Chain) (out : List Float) (e : Chain) (after : List Float) : Type 0 where
+  pub samples : after ≡ written pairs source add 0 s out
+  pub chain : e ≡ ended pairs source (length out) 0 s

@@ -26,13 +26,13 @@ rampScale size = decimal 1 0 ⊘ asFloat size
 unfoldable pub feedbackScale : ℕ → Float
 feedbackScale amount = cond (eqb amount 0) (decimal 0 0) (asFloat (shifted32 1 amount) ⊘ decimal 512 0)
 
--- an operator enters a block: its amplitude goes to the target, which is held at 4, in steps as large as the scale says
+-- an operator enters a block: its amplitude goes to the target, which is held at 4, in steps as large as the ramp says
 unfoldable pub laneOf : Operator → ℕ → Float → Float → Lane
-laneOf o step target scale = record {
+laneOf o step target ramp = record {
   phase = o .phase;
   amplitude = o .amplitude;
   step = step;
-  increment = (minimum target (decimal 4 0) ⊖ o .amplitude) ⊗ scale;
+  increment = (minimum target (decimal 4 0) ⊖ o .amplitude) ⊗ ramp;
 }
 
 -- and leaves it: phase and amplitude are stored
@@ -42,8 +42,8 @@ operatorOf l = record { phase = l .phase; amplitude = l .amplitude }
 -- ---- one sample
 
 -- the sine at the phase that the operator moves on to, times the amplitude that it comes with
-unfoldable pub sounded : List Float → Lane → Float → Float
-sounded lut l pm = sinePm lut (sum32 (l .phase) (l .step)) pm ⊗ l .amplitude
+unfoldable pub sampled : List Float → Lane → Float → Float
+sampled pairs l pm = sinePm pairs (sum32 (l .phase) (l .step)) pm ⊗ l .amplitude
 
 -- a sample further: the phase by its step, wrapped, and the amplitude by its increment
 unfoldable pub moved : Lane → Lane
@@ -56,7 +56,7 @@ moved l = record {
 
 -- the modulation that feedback gives: the origin's last two samples
 unfoldable pub fed : Feedback → Float → Float
-fed f scale = (f .«previous_0» ⊕ f .«previous_1») ⊗ scale
+fed f feedback-scale = (f .«previous_0» ⊕ f .«previous_1») ⊗ feedback-scale
 
 -- the feedback after a sample of its origin
 unfoldable pub pushed : Feedback → Float → Feedback

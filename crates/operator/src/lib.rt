@@ -1,13 +1,14 @@
-// One block of a chain of operators, after operator.rs: phases that wrap, amplitudes that ramp to their targets, and the
-// renderers that a plan can name. Each promises the samples and the state that the definition names, for every input.
+// One block of a chain of operators, after operator.rs: phases that wrap, amplitudes that ramp to their targets, and
+// the renderers that a plan can name. Each promises one thing, `Rendered`, for every input: the samples and the chain
+// after them. `pairs` are the sine's values and differences, lent; `s` is the chain as it comes.
 ghost use mathlib.Core.Path.{_≡_};
 ghost use mathlib.Core.Bool.{true};
-ghost use mathlib.Core.List.{_++_};
 ghost use Prim.Native.Nat.{_+_, _≤_};
-ghost use lib.ListN.{length, take, drop};
-ghost use Rattle.operator.specs.Sample.{still, laneOf, operatorOf, moved, sounded, fed, pushed, mixed};
+ghost use lib.ListN.{length};
+ghost use Rattle.operator.specs.Sample.{still, laneOf, operatorOf, moved, sampled, fed, pushed, mixed};
 ghost use Rattle.operator.specs.Sample.{feedbackScale, rampScale};
-ghost use Rattle.operator.specs.Chain.{Source, one, two, three, written, ended, allNear, Placed, Going};
+ghost use Rattle.operator.specs.Chain.{Source, one, two, three, Rendered};
+ghost use Rattle.operator.specs.Parts.{allNear, Placed, Going};
 
 // What a block leaves behind of an operator.
 pub struct Operator {
@@ -85,60 +86,60 @@ pub fn feedback_scale(amount: u8) -> f32
 }
 
 // An operator at the start of a block, with its step and its way to the target, held at 4.
-pub fn enter(o: Operator, step: u32, target: f32, scale: f32) -> Lane
-    ensures { λ r. ⌜ r ≡ laneOf o step target scale ⌝ }
+pub fn enter(operator: Operator, step: u32, target: f32, ramp: f32) -> Lane
+    ensures { λ r. ⌜ r ≡ laneOf operator step target ramp ⌝ }
 {
     Lane {
-        phase: o.phase,
-        amplitude: o.amplitude,
+        phase: operator.phase,
+        amplitude: operator.amplitude,
         step: step,
-        increment: (numbers::f32_min(target, 4.0) - o.amplitude) * scale,
+        increment: (numbers::f32_min(target, 4.0) - operator.amplitude) * ramp,
     }
 }
 
 // And at its end.
-pub fn leave(l: Lane) -> Operator
-    ensures { λ r. ⌜ r ≡ operatorOf l ⌝ }
+pub fn leave(lane: Lane) -> Operator
+    ensures { λ r. ⌜ r ≡ operatorOf lane ⌝ }
 {
     Operator {
-        phase: l.phase,
-        amplitude: l.amplitude,
+        phase: lane.phase,
+        amplitude: lane.amplitude,
     }
 }
 
 // An operator's sample at the phase that it moves on to.
-fn sound(lut: &[f32; 1024], l: Lane, pm: f32) -> f32
-    ensures { λ r. ⌜ r ≡ sounded (now (lut .entry)) l pm ⌝ }
+fn sample(pairs: &[f32; 1024], lane: Lane, pm: f32) -> f32
+    ensures { λ r. ⌜ r ≡ sampled (now (pairs .entry)) lane pm ⌝ }
 {
-    sine::sine_pm(lut, numbers::wrapping_add_u32(l.phase, l.step), pm) * l.amplitude
+    sine::sine_pm(pairs, numbers::wrapping_add_u32(lane.phase, lane.step), pm) * lane.amplitude
 }
 
 // The operator after a sample.
-fn advance(l: Lane) -> Lane
-    ensures { λ r. ⌜ r ≡ moved l ⌝ }
+fn advance(lane: Lane) -> Lane
+    ensures { λ r. ⌜ r ≡ moved lane ⌝ }
 {
     Lane {
-        phase: numbers::wrapping_add_u32(l.phase, l.step),
-        amplitude: l.amplitude + l.increment,
-        step: l.step,
-        increment: l.increment,
+        phase: numbers::wrapping_add_u32(lane.phase, lane.step),
+        amplitude: lane.amplitude + lane.increment,
+        step: lane.step,
+        increment: lane.increment,
     }
 }
 
 // The modulation that feedback gives.
-fn feed(f: Feedback, scale: f32) -> f32
-    ensures { λ r. ⌜ r ≡ fed f scale ⌝ }
+fn feed(feedback: Feedback, feedback_scale: f32) -> f32
+    ensures { λ r. ⌜ r ≡ fed feedback «feedback_scale» ⌝ }
 {
-    (f.previous_0 + f.previous_1) * scale
+    (feedback.previous_0 + feedback.previous_1) * feedback_scale
 }
 
 // The feedback after a sample of its origin.
-fn push(f: Feedback, pm: f32) -> Feedback
-    ensures { λ r. ⌜ r ≡ pushed f pm ⌝ }
+fn push(feedback: Feedback, pm: f32) -> Feedback
+    ensures { λ r. ⌜ r ≡ pushed feedback pm ⌝ }
 {
     Feedback {
         previous_0: pm,
-        previous_1: f.previous_0,
+        previous_1: feedback.previous_0,
     }
 }
 
@@ -150,44 +151,38 @@ fn mix(add: bool, there: f32, pm: f32) -> f32
 }
 
 // One operator that nothing modulates.
-pub fn render_none(lut: &[f32; 1024], s: Single, add: bool, out: &mut [f32]) -> Single
-    ensures { λ r. ⌜ (now (out .exit) ≡ written (now (lut .entry)) Source.none add 0 (one s) (now (out .entry)))
-        × (one r ≡ ended (now (lut .entry)) Source.none (length (now (out .entry))) 0 (one s)) ⌝ }
+pub fn render_none(pairs: &[f32; 1024], s: Single, add: bool, out: &mut [f32]) -> Single
+    ensures { λ r. ⌜ Rendered (now (pairs .entry)) Source.none add (one s) (now (out .entry))
+        (one r) (now (out .exit)) ⌝ }
 {
-    let mut l = s.first;
-    let f = s.feedback;
+    let mut first = s.first;
+    let feedback = s.feedback;
     let mut i = 0usize;
     while i < out.len() {
-        let pm = sound(lut, l, 0.0);
-        l = advance(l);
+        let pm = sample(pairs, first, 0.0);
+        first = advance(first);
         out[i] = mix(add, out[i], pm);
         i = i + 1;
     }
-    Single {
-        first: l,
-        feedback: f,
-    }
+    Single { first, feedback }
 }
 
-// One operator, modulated by the samples of another buffer. Setting and adding get a loop each where this is called with one or the other.
-fn external(lut: &[f32; 1024], s: Single, add: bool, modulation: &[f32], out: &mut [f32]) -> Single
+// One operator, modulated by the samples of another buffer, sample by sample.
+fn far(pairs: &[f32; 1024], s: Single, add: bool, modulation: &[f32], out: &mut [f32]) -> Single
     requires { ⌜ length (now out) ≤ length (now modulation) ⌝ }
-    ensures { λ r. ⌜ (now (out .exit) ≡ written (now (lut .entry)) (Source.external (now (modulation .entry))) add 0 (one s) (now (out .entry)))
-        × (one r ≡ ended (now (lut .entry)) (Source.external (now (modulation .entry))) (length (now (out .entry))) 0 (one s)) ⌝ }
+    ensures { λ r. ⌜ Rendered (now (pairs .entry)) (Source.external (now (modulation .entry))) add
+        (one s) (now (out .entry)) (one r) (now (out .exit)) ⌝ }
 {
-    let mut l = s.first;
-    let f = s.feedback;
+    let mut first = s.first;
+    let feedback = s.feedback;
     let mut i = 0usize;
     while i < out.len() {
-        let pm = sound(lut, l, modulation[i]);
-        l = advance(l);
+        let pm = sample(pairs, first, modulation[i]);
+        first = advance(first);
         out[i] = mix(add, out[i], pm);
         i = i + 1;
     }
-    Single {
-        first: l,
-        feedback: f,
-    }
+    Single { first, feedback }
 }
 
 // Whether every modulation lies from -31 to 30 turns.
@@ -203,10 +198,15 @@ fn all_near(modulation: &[f32]) -> bool
     near
 }
 
-// The modulated phases of n samples from sample i on. The compiler does four at a time.
+// For speed a block whose modulations are near is rendered in parts of at most 64 samples, each in two loops: the
+// phases first, which the compiler does four at a time, then the samples at them.
+
+// The modulated phases of n samples from sample i on.
 fn set_phases(modulation: &[f32], i: usize, n: usize, phase: u32, step: u32, at: &mut [u32; 64])
-    requires { ⌜ (allNear (now modulation) ≡ true) × (i + n ≤ length (now modulation)) × (n ≤ 64) × (length (now at) ≡ 64) ⌝ }
-    ensures { λ _. ⌜ Placed (now (modulation .entry)) i n phase step (now (at .exit)) × (length (now (at .exit)) ≡ 64) ⌝ }
+    requires { ⌜ (allNear (now modulation) ≡ true) × (i + n ≤ length (now modulation))
+        × (n ≤ 64) × (length (now at) ≡ 64) ⌝ }
+    ensures { λ _. ⌜ Placed (now (modulation .entry)) i n phase step (now (at .exit))
+        × (length (now (at .exit)) ≡ 64) ⌝ }
 {
     let mut p = phase;
     let mut k = 0usize;
@@ -219,7 +219,7 @@ fn set_phases(modulation: &[f32], i: usize, n: usize, phase: u32, step: u32, at:
 
 // The n samples from sample i on, at their phases.
 fn lines(
-    lut: &[f32; 1024],
+    pairs: &[f32; 1024],
     s: Single,
     add: bool,
     modulation: &[f32],
@@ -228,42 +228,21 @@ fn lines(
     at: &[u32; 64],
     out: &mut [f32],
 ) -> Single
-    requires { ⌜ (i + n ≤ length (now out)) × (n ≤ 64) × Placed (now modulation) i n (s .first .phase) (s .first .step) (now at) ⌝ }
-    ensures { λ r. ⌜ Going (now (lut .entry)) (Source.external (now (modulation .entry))) add (take i (now (out .entry)) ++ written (now (lut .entry)) (Source.external (now (modulation .entry))) add i (one s) (drop i (now (out .entry)))) (ended (now (lut .entry)) (Source.external (now (modulation .entry))) (length (drop i (now (out .entry)))) i (one s)) (length (now (out .entry))) (i + n) (one r) (now (out .exit)) ⌝ }
+    requires { ⌜ (i + n ≤ length (now out)) × (n ≤ 64)
+        × Placed (now modulation) i n (s .first .phase) (s .first .step) (now at) ⌝ }
+    ensures { λ r. ⌜ Going (now (pairs .entry)) (Source.external (now (modulation .entry))) add
+        i (one s) (now (out .entry)) (i + n) (one r) (now (out .exit)) ⌝ }
 {
-    let mut l = s.first;
-    let f = s.feedback;
+    let mut first = s.first;
+    let feedback = s.feedback;
     let mut k = 0usize;
     while k < n {
-        let pm = sine::line(lut, at[k]) * l.amplitude;
-        l = advance(l);
+        let pm = sine::line(pairs, at[k]) * first.amplitude;
+        first = advance(first);
         out[i + k] = mix(add, out[i + k], pm);
         k = k + 1;
     }
-    Single {
-        first: l,
-        feedback: f,
-    }
-}
-
-// The same, where every modulation is near.
-fn chunk(
-    lut: &[f32; 1024],
-    s: Single,
-    add: bool,
-    modulation: &[f32],
-    i: usize,
-    n: usize,
-    at: &mut [u32; 64],
-    out: &mut [f32],
-) -> Single
-    requires { ⌜ (allNear (now modulation) ≡ true) × (i + n ≤ length (now modulation)) × (i + n ≤ length (now out)) × (n ≤ 64) × (length (now at) ≡ 64) ⌝ }
-    ensures { λ r. ⌜ Going (now (lut .entry)) (Source.external (now (modulation .entry))) add (take i (now (out .entry)) ++ written (now (lut .entry)) (Source.external (now (modulation .entry))) add i (one s) (drop i (now (out .entry)))) (ended (now (lut .entry)) (Source.external (now (modulation .entry))) (length (drop i (now (out .entry)))) i (one s)) (length (now (out .entry))) (i + n) (one r) (now (out .exit))
-        × (length (now (at .exit)) ≡ 64) ⌝ }
-{
-    let l = s.first;
-    set_phases(modulation, i, n, l.phase, l.step, at);
-    lines(lut, s, add, modulation, i, n, at, out)
+    Single { first, feedback }
 }
 
 // How many samples come next: 64, or what is left.
@@ -278,145 +257,142 @@ fn portion(i: usize, all: usize) -> usize
     64
 }
 
-// A whole block by chunks, where every modulation is near.
-fn near_external(
-    lut: &[f32; 1024],
-    s: Single,
-    add: bool,
-    modulation: &[f32],
-    out: &mut [f32],
-) -> Single
+// A whole block by parts.
+fn near(pairs: &[f32; 1024], s: Single, add: bool, modulation: &[f32], out: &mut [f32]) -> Single
     requires { ⌜ (allNear (now modulation) ≡ true) × (length (now out) ≤ length (now modulation)) ⌝ }
-    ensures { λ r. ⌜ (now (out .exit) ≡ written (now (lut .entry)) (Source.external (now (modulation .entry))) add 0 (one s) (now (out .entry)))
-        × (one r ≡ ended (now (lut .entry)) (Source.external (now (modulation .entry))) (length (now (out .entry))) 0 (one s)) ⌝ }
+    ensures { λ r. ⌜ Rendered (now (pairs .entry)) (Source.external (now (modulation .entry))) add
+        (one s) (now (out .entry)) (one r) (now (out .exit)) ⌝ }
 {
     let mut at = [0u32; 64];
     let mut t = s;
     let mut i = 0usize;
     while i < out.len() {
         let n = portion(i, out.len());
-        t = chunk(lut, t, add, modulation, i, n, &mut at, out);
+        let first = t.first;
+        set_phases(modulation, i, n, first.phase, first.step, &mut at);
+        t = lines(pairs, t, add, modulation, i, n, &at, out);
         i = i + n;
     }
     t
 }
 
-// By chunks, or sample by sample.
-fn either_external(
-    lut: &[f32; 1024],
-    s: Single,
-    add: bool,
-    modulation: &[f32],
-    out: &mut [f32],
-) -> Single
+// By parts, or sample by sample.
+fn either(pairs: &[f32; 1024], s: Single, add: bool, modulation: &[f32], out: &mut [f32]) -> Single
     requires { ⌜ length (now out) ≤ length (now modulation) ⌝ }
-    ensures { λ r. ⌜ (now (out .exit) ≡ written (now (lut .entry)) (Source.external (now (modulation .entry))) add 0 (one s) (now (out .entry)))
-        × (one r ≡ ended (now (lut .entry)) (Source.external (now (modulation .entry))) (length (now (out .entry))) 0 (one s)) ⌝ }
+    ensures { λ r. ⌜ Rendered (now (pairs .entry)) (Source.external (now (modulation .entry))) add
+        (one s) (now (out .entry)) (one r) (now (out .exit)) ⌝ }
 {
     if all_near(modulation) {
-        return near_external(lut, s, add, modulation, out);
+        return near(pairs, s, add, modulation, out);
     }
-    external(lut, s, add, modulation, out)
+    far(pairs, s, add, modulation, out)
 }
 
-// The same, by one of the two loops.
+// One operator, modulated by the samples of another buffer. For speed setting and adding are called apart: the compiler
+// then makes a loop of each.
 pub fn render_external(
-    lut: &[f32; 1024],
+    pairs: &[f32; 1024],
     s: Single,
     add: bool,
     modulation: &[f32],
     out: &mut [f32],
 ) -> Single
     requires { ⌜ length (now out) ≤ length (now modulation) ⌝ }
-    ensures { λ r. ⌜ (now (out .exit) ≡ written (now (lut .entry)) (Source.external (now (modulation .entry))) add 0 (one s) (now (out .entry)))
-        × (one r ≡ ended (now (lut .entry)) (Source.external (now (modulation .entry))) (length (now (out .entry))) 0 (one s)) ⌝ }
+    ensures { λ r. ⌜ Rendered (now (pairs .entry)) (Source.external (now (modulation .entry))) add
+        (one s) (now (out .entry)) (one r) (now (out .exit)) ⌝ }
 {
     if add {
-        return either_external(lut, s, true, modulation, out);
+        return either(pairs, s, true, modulation, out);
     }
-    either_external(lut, s, false, modulation, out)
+    either(pairs, s, false, modulation, out)
 }
 
 // One operator, modulated by its own last two samples.
 pub fn render_feedback(
-    lut: &[f32; 1024],
+    pairs: &[f32; 1024],
     s: Single,
-    scale: f32,
+    feedback_scale: f32,
     add: bool,
     out: &mut [f32],
 ) -> Single
-    ensures { λ r. ⌜ (now (out .exit) ≡ written (now (lut .entry)) (Source.feedback scale) add 0 (one s) (now (out .entry)))
-        × (one r ≡ ended (now (lut .entry)) (Source.feedback scale) (length (now (out .entry))) 0 (one s)) ⌝ }
+    ensures { λ r. ⌜ Rendered (now (pairs .entry)) (Source.feedback «feedback_scale») add
+        (one s) (now (out .entry)) (one r) (now (out .exit)) ⌝ }
 {
-    let mut l = s.first;
-    let mut f = s.feedback;
+    let mut first = s.first;
+    let mut feedback = s.feedback;
     let mut i = 0usize;
     while i < out.len() {
-        let pm = sound(lut, l, feed(f, scale));
-        l = advance(l);
-        f = push(f, pm);
+        let pm = sample(pairs, first, feed(feedback, feedback_scale));
+        first = advance(first);
+        feedback = push(feedback, pm);
         out[i] = mix(add, out[i], pm);
         i = i + 1;
     }
-    Single {
-        first: l,
-        feedback: f,
-    }
+    Single { first, feedback }
 }
 
 // Two operators, the first modulated by the last two samples of the second.
-pub fn render_feedback_2(lut: &[f32; 1024], s: Pair, scale: f32, add: bool, out: &mut [f32]) -> Pair
-    ensures { λ r. ⌜ (now (out .exit) ≡ written (now (lut .entry)) (Source.feedback scale) add 0 (two s) (now (out .entry)))
-        × (two r ≡ ended (now (lut .entry)) (Source.feedback scale) (length (now (out .entry))) 0 (two s)) ⌝ }
+pub fn render_feedback_2(
+    pairs: &[f32; 1024],
+    s: Pair,
+    feedback_scale: f32,
+    add: bool,
+    out: &mut [f32],
+) -> Pair
+    ensures { λ r. ⌜ Rendered (now (pairs .entry)) (Source.feedback «feedback_scale») add
+        (two s) (now (out .entry)) (two r) (now (out .exit)) ⌝ }
 {
-    let mut l = s.first;
-    let mut m = s.second;
-    let mut f = s.feedback;
+    let mut first = s.first;
+    let mut second = s.second;
+    let mut feedback = s.feedback;
     let mut i = 0usize;
     while i < out.len() {
-        let pm = sound(lut, m, sound(lut, l, feed(f, scale)));
-        l = advance(l);
-        m = advance(m);
-        f = push(f, pm);
+        let pm = sample(pairs, first, feed(feedback, feedback_scale));
+        let pm = sample(pairs, second, pm);
+        first = advance(first);
+        second = advance(second);
+        feedback = push(feedback, pm);
         out[i] = mix(add, out[i], pm);
         i = i + 1;
     }
     Pair {
-        first: l,
-        second: m,
-        feedback: f,
+        first,
+        second,
+        feedback,
     }
 }
 
 // Three operators, the first modulated by the last two samples of the third.
 pub fn render_feedback_3(
-    lut: &[f32; 1024],
+    pairs: &[f32; 1024],
     s: Triple,
-    scale: f32,
+    feedback_scale: f32,
     add: bool,
     out: &mut [f32],
 ) -> Triple
-    ensures { λ r. ⌜ (now (out .exit) ≡ written (now (lut .entry)) (Source.feedback scale) add 0 (three s) (now (out .entry)))
-        × (three r ≡ ended (now (lut .entry)) (Source.feedback scale) (length (now (out .entry))) 0 (three s)) ⌝ }
+    ensures { λ r. ⌜ Rendered (now (pairs .entry)) (Source.feedback «feedback_scale») add
+        (three s) (now (out .entry)) (three r) (now (out .exit)) ⌝ }
 {
-    let mut l = s.first;
-    let mut m = s.second;
-    let mut n = s.third;
-    let mut f = s.feedback;
+    let mut first = s.first;
+    let mut second = s.second;
+    let mut third = s.third;
+    let mut feedback = s.feedback;
     let mut i = 0usize;
     while i < out.len() {
-        let pm = sound(lut, n, sound(lut, m, sound(lut, l, feed(f, scale))));
-        l = advance(l);
-        m = advance(m);
-        n = advance(n);
-        f = push(f, pm);
+        let pm = sample(pairs, first, feed(feedback, feedback_scale));
+        let pm = sample(pairs, second, pm);
+        let pm = sample(pairs, third, pm);
+        first = advance(first);
+        second = advance(second);
+        third = advance(third);
+        feedback = push(feedback, pm);
         out[i] = mix(add, out[i], pm);
         i = i + 1;
     }
     Triple {
-        first: l,
-        second: m,
-        third: n,
-        feedback: f,
+        first,
+        second,
+        third,
+        feedback,
     }
 }

@@ -35,8 +35,7 @@ use Rattle.envelope_inner.specs.Envelope as envelope
 use Rattle.envelope_inner.specs.Set.{operatorSet, pitchSet}
 use Rattle.envelope_stages.specs.Stages.{jump, operatorStageLevel, risingIncrement, operatorStageIncrement, operatorLevels, operatorIncrements, pitchStageIncrement, pitchLevels, pitchIncrements}
 use Rattle.operator.specs.Chain.{entered, kept, through, allMoved, heard, next, ended, written}
-use Rattle.operator.specs.Sample.{still, rampScale, feedbackScale, laneOf, operatorOf, moved, fed, pushed, mixed}
-use Rattle.operator.specs.Sample as sample
+use Rattle.operator.specs.Sample.{still, rampScale, feedbackScale, laneOf, operatorOf, sampled, moved, fed, pushed, mixed}
 use Rattle.voice_block.specs.Calls.{laneAt, lanesAt, chainAt, putAll, settled, sourceOf, called, calledUpTo, setting, ran}
 use Rattle.voice_block.specs.Calls as calls
 use Rattle.voice_block.specs.Quarters.{split, joined}
@@ -84,7 +83,7 @@ unfolding neg add sub mul div lt eq le ne isNan ofInt toUnsigned toSigned ofBits
     initialised previousLevel startOf jump line segment valueAt currentValue gated steppedPhase advanced envelope.bent envelope.rendered
     operatorStageLevel risingIncrement operatorStageIncrement operatorLevels operatorIncrements operatorSet pitchStageIncrement pitchLevels pitchIncrements pitchSet
     entered kept through allMoved heard next ended written
-    still rampScale feedbackScale laneOf operatorOf moved fed pushed mixed sample.sounded
+    still rampScale feedbackScale laneOf operatorOf moved fed pushed mixed sampled
     laneAt lanesAt chainAt putAll settled sourceOf called calledUpTo setting ran calls.putAt
     split joined
     headroomOf operatorSetUp setUpTo setup.putAt

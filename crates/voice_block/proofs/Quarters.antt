@@ -34,25 +34,34 @@ get-split : (n k q : ℕ) (l : List Float) → q < k → getD (split n k l) q []
 unfolding split
 get-split n zero q l h = absurd (not-suc-le-zero h)
 get-split n (suc k) zero l h = rw zero-mul
-get-split n (suc k) (suc q) l h = get-split n k q (drop n l) (le-of-suc-le-suc h) ∙ rw (drop-drop, suc-mul, add-comm n (q * n))
+get-split n (suc k) (suc q) l h =
+    get-split n k q (drop n l) (le-of-suc-le-suc h) ∙ rw (drop-drop, suc-mul, add-comm n (q * n))
 
 -- a part is written
-set-split : (n k q : ℕ) (l new : List Float) → q < k → length l ≡ k * n → length new ≡ n → split n k (putMid (q * n) n l new) ≡ set (split n k l) q new
+set-split : (n k q : ℕ) (l new : List Float) → q < k → length l ≡ k * n → length new ≡ n
+    → split n k (putMid (q * n) n l new) ≡ set (split n k l) q new
 unfolding split
 set-split n zero q l new h e f = absurd (not-suc-le-zero h)
 set-split n (suc k) zero l new h e f = rw (zero-mul, take-at new (drop n l) n f, drop-at new (drop n l) n f)
 set-split n (suc k) (suc q) l new h e f =
     let x : putMid (suc q * n) n l new ≡ take n l ++ putMid (q * n) n (drop n l) new
     = rw (suc-mul, add-comm (q * n) n, take-add n (q * n) l, append-assoc, ← drop-drop (q * n) n l) in
-    rw (x, take-at (take n l) (putMid (q * n) n (drop n l) new) n (first n k l e), drop-at (take n l) (putMid (q * n) n (drop n l) new) n (first n k l e))
-    (ap (λ (t : List (List Float)). take n l ∷ t) (set-split n k q (drop n l) new (le-of-suc-le-suc h) (rest n k l e) f))
+    rw (
+      x,
+      take-at (take n l) (putMid (q * n) n (drop n l) new) n (first n k l e),
+      drop-at (take n l)
+          (putMid (q * n) n (drop n l) new) n (first n k l e),
+    )
+    (ap (λ (t : List (List Float)). take n l ∷ t)
+    (set-split n k q (drop n l) new (le-of-suc-le-suc h) (rest n k l e) f))
 
 -- the parts make the whole
 pub joined-split : (n k : ℕ) (l : List Float) → length l ≡ k * n → joined (split n k l) ≡ l
 unfolding split joined
 joined-split n zero [] e = refl
 joined-split n zero (x ∷ l) e = absurd (omega (arith, zero-mul n))
-joined-split n (suc k) l e = ap (λ (t : List Float). take n l ++ t) (joined-split n k (drop n l) (rest n k l e)) ∙ take-append-drop n l
+joined-split n (suc k) l e =
+    ap (λ (t : List Float). take n l ++ t) (joined-split n k (drop n l) (rest n k l e)) ∙ take-append-drop n l
 
 -- ---- at the places that the code computes: q's quarter starts at a, and ends n after it
 
@@ -63,9 +72,11 @@ module _ (n q a : ℕ) (l : List Float) (h : q < 4) (w : length l ≡ 4 * n) (e 
   length-at : length (take (a + n - a) (drop a l)) ≡ n
   length-at = length-take-le (a + n - a) (drop a l) (rw (length-drop a l) (omega (arith, within q 4 n h))) ∙ omega arith
 
-  pub write-at : (new : List Float) → length new ≡ length (take (a + n - a) (drop a l)) → split n 4 (putMid a (a + n - a) l new) ≡ set (split n 4 l) q new
+  pub write-at : (new : List Float) → length new ≡ length (take (a + n - a) (drop a l))
+      → split n 4 (putMid a (a + n - a) l new) ≡ set (split n 4 l) q new
   write-at new f = let k : a + n - a ≡ n = omega arith in rw (k, e) (set-split n 4 q l new h w (f ∙ length-at))
 
   -- what was copied aside is the quarter
-  pub aside-at : (aside : List Float) → take (length (take (a + n - a) (drop a l))) aside ≡ take (a + n - a) (drop a l) → take (n - 0) aside ≡ getD (split n 4 l) q []
+  pub aside-at : (aside : List Float) → take (length (take (a + n - a) (drop a l))) aside ≡ take (a + n - a) (drop a l)
+      → take (n - 0) aside ≡ getD (split n 4 l) q []
   aside-at aside f = rw (sub-zero n) ((rw length-at at f) ∙ read-at)

@@ -1,4 +1,5 @@
--- What the calls of a plan make of a block's quarters, of the operators and of the feedback. Definitions only.
+-- What the calls of a plan make of a block's quarters, of the operators and of the feedback: `ran`, at the end, is what
+-- the crate promises. Definitions only.
 use Prim.Native.Nat.{ℕ, zero, suc, _+_, _/_, _≤_, _<_}
 use mathlib.Core.Path.{_≡_}
 use mathlib.Core.Bool.{cond}
@@ -19,12 +20,13 @@ use Rattle.voice_block.specs.declared.Operators.{Operators}
 
 -- ---- a call's operators
 
--- what stays the same over a block: each operator's step and target, and the two scales
+-- what stays the same over a block: each operator's step and the amplitude that it goes to, what an amplitude's way is
+-- multiplied by for one sample, and what the feedback's sum is multiplied by
 pub record Setting : Type 0 where
   pub steps : List ℕ
-  pub amplitudes : List Float
+  pub targets : List Float
   pub ramp : Float
-  pub feedback : Float
+  pub feedback-scale : Float
 
 -- what stands past the last operator: nothing asks for it
 abbrev pub noOperator : Operator
@@ -32,7 +34,7 @@ noOperator = record { phase = 0; amplitude = nan }
 
 -- operator i, as it enters the block
 unfoldable pub laneAt : Setting → List Operator → ℕ → Lane
-laneAt g os i = laneOf (getD os i noOperator) (getD (g .steps) i 0) (getD (g .amplitudes) i nan) (g .ramp)
+laneAt g os i = laneOf (getD os i noOperator) (getD (g .steps) i 0) (getD (g .targets) i nan) (g .ramp)
 
 -- n operators from `first` on
 unfoldable pub lanesAt : Setting → List Operator → ℕ → ℕ → List Lane
@@ -65,19 +67,20 @@ abbrev pub desk : ℕ → Operators → List Float → Desk
 desk n v block = record { operators = v; quarters = split n 4 block }
 
 -- what modulates a call: a buffer where it reads one, else feedback or nothing
-unfoldable pub sourceOf : Setting → Call → List (List Float) → Source
-sourceOf g c qs = cond (reading c) (external (getD qs (c .input) [])) (cond (eqb (c .input) 3) (feedback (g .feedback)) none)
+unfoldable pub sourceOf : Float → Call → List (List Float) → Source
+sourceOf feedback-scale c qs =
+    cond (reading c) (external (getD qs (c .input) [])) (cond (eqb (c .input) 3) (feedback feedback-scale) none)
 
-module _ (lut : List Float) (g : Setting) where
+module _ (pairs : List Float) (g : Setting) where
   -- the quarter that a call writes, and the operators after it
   unfoldable pub called : Call → Desk → Desk
   called c d =
-      let source = sourceOf g c (d .quarters) in
+      let source = sourceOf (g .feedback-scale) c (d .quarters) in
       let there = getD (d .quarters) (c .output) [] in
       let s = chainAt g (d .operators) (c .first) (c .n) in
       record {
-        operators = settled (d .operators) (c .first) (ended lut source (length there) 0 s);
-        quarters = set (d .quarters) (c .output) (written lut source (c .add) 0 s there);
+        operators = settled (d .operators) (c .first) (ended pairs source (length there) 0 s);
+        quarters = set (d .quarters) (c .output) (written pairs source (c .add) 0 s there);
       }
 
   -- the first k calls of a plan, in order
@@ -89,17 +92,22 @@ module _ (lut : List Float) (g : Setting) where
 
 -- what stays the same over a block of n samples
 unfoldable pub setting : List ℕ → List Float → ℕ → ℕ → Setting
-setting steps amplitudes amount n = record { steps = steps; amplitudes = amplitudes; ramp = rampScale n; feedback = feedbackScale amount }
+setting steps targets amount n = record {
+  steps = steps;
+  targets = targets;
+  ramp = rampScale n;
+  feedback-scale = feedbackScale amount;
+}
 
--- the operators, the feedback and all four quarters after a plan
+-- the operators, the feedback and all four quarters after a plan, for these steps, targets and amount of feedback
 pub record Ran : Type 0 where
   pub operators : Operators
   pub block : List Float
 
 unfoldable pub ran : List Float → Plan → List ℕ → List Float → ℕ → Operators → List Float → Ran
-ran lut plan steps amplitudes amount v block =
+ran pairs plan steps targets amount v block =
     let n = length block / 4 in
-    let d = calledUpTo lut (setting steps amplitudes amount n) (plan .calls) (plan .count) (desk n v block) in
+    let d = calledUpTo pairs (setting steps targets amount n) (plan .calls) (plan .count) (desk n v block) in
     record { operators = d .operators; block = joined (d .quarters) }
 
 -- ---- the plans that can be run: every accepted row's is one

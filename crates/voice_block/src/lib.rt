@@ -1,14 +1,17 @@
-// The calls of a plan over one block, after the last loop of voice.rs's render: one slice in four equal quarters, the
-// output and scratch 1 to 3. The runner promises all four quarters, the operators and the feedback afterwards.
+// The calls of a plan over one block, after the last loop of voice.rs's render: each call renders one to three
+// operators into a buffer, modulated by nothing, by another buffer or by feedback. The four buffers are the quarters of
+// one slice, the output first and then scratch 1 to 3. `run_plan` promises all four quarters, the operators and the
+// feedback after the calls (`ran`). `pairs` are the sine's values and differences, lent.
+// For speed the operators go from call to call as lent arrays of numbers, phases beside amplitudes, and not as structs.
 ghost use mathlib.Core.Path.{_≡_};
-ghost use Prim.Native.Nat.{_+_, _*_, _%_, _≤_, _<_};
-ghost use lib.ListN.{length, take, set};
-ghost use lib.Ieee.{Float};
-ghost use Rattle.operator.specs.Sample.{operatorOf};
+ghost use Prim.Native.Nat.{_+_, _*_, _/_, _%_, _≤_, _<_};
+ghost use lib.ListN.{length, take};
 ghost use Rattle.operator.specs.Chain.{one, two, three};
 ghost use Rattle.voice_block.specs.Quarters.{Quartered};
-ghost use Rattle.voice_block.specs.Calls.{Callable, Playable, laneAt, chainAt, settled, called, calledUpTo, ran};
-ghost use Rattle.voice_block.specs.State.{phasesOf, levelsOf, zipped, feedbackOf, stateOf, settingOf, Lent, deskOf};
+ghost use Rattle.voice_block.specs.Calls.{Callable, Playable, laneAt, called, calledUpTo, ran};
+ghost use Rattle.voice_block.specs.State.{phasesOf, amplitudesOf, numbered, zipped};
+ghost use Rattle.voice_block.specs.State.{feedbackOf, stateOf, settingOf};
+ghost use Rattle.voice_block.specs.State.{Lent, Stored, Settled, Played, Ready, Became};
 use algorithms::Call;
 use algorithms::Plan;
 use operator::Feedback;
@@ -24,406 +27,317 @@ pub struct Operators {
     pub feedback_state: Feedback,
 }
 
-// Where a quarter starts.
-fn start(q: u8, n: usize) -> usize
-    requires { ⌜ (q < 4) × (n ≤ 1024) ⌝ }
-    ensures { λ r. ⌜ (r ≡ q * n) × (r + n ≤ 4 * n) ⌝ }
-{
-    (q as usize) * n
+// What is the same for every call of a block: its samples, and what an amplitude's way to its target and the feedback's
+// sum are multiplied by.
+pub struct Pace {
+    pub samples: usize,
+    pub ramp: f32,
+    pub feedback_scale: f32,
 }
 
-// A quarter to be read, copied aside.
-fn copy_aside(s: &[f32], aside: &mut [f32])
-    requires { ⌜ length (now s) ≤ length (now aside) ⌝ }
-    ensures { λ _. ⌜ take (length (now (s .entry))) (now (aside .exit)) ≡ now (s .entry) ⌝ }
+// ---- quarters
+
+// Where a quarter starts.
+fn start(quarter: u8, samples: usize) -> usize
+    requires { ⌜ (quarter < 4) × (samples ≤ 1024) ⌝ }
+    ensures { λ r. ⌜ (r ≡ quarter * samples) × (r + samples ≤ 4 * samples) ⌝ }
+{
+    (quarter as usize) * samples
+}
+
+// A quarter to be read, copied aside: the block is lent to be written.
+fn copy_aside(quarter: &[f32], aside: &mut [f32])
+    requires { ⌜ length (now quarter) ≤ length (now aside) ⌝ }
+    ensures { λ _. ⌜ take (length (now (quarter .entry))) (now (aside .exit)) ≡ now (quarter .entry) ⌝ }
 {
     let mut i = 0usize;
-    while i < s.len() {
-        aside[i] = s[i];
+    while i < quarter.len() {
+        aside[i] = quarter[i];
         i = i + 1;
     }
 }
 
-// An operator taken out.
-fn take_out(
-    steps: &[u32; 6],
-    targets: &[f32; 6],
-    ramp: f32,
-    phases: &[u32; 6],
-    levels: &[f32; 6],
-    i: usize,
-) -> Lane
-    requires { ⌜ (i < 6) × (length (now phases) ≡ 6) × (length (now levels) ≡ 6) ⌝ }
-    ensures { λ r. ⌜ ((scale : Float) → r ≡ laneAt (settingOf (now (steps .entry)) (now (targets .entry)) ramp scale) (zipped (now (phases .entry)) (now (levels .entry))) i) ⌝ }
+// ---- operators taken out and put back
+
+// An operator of its numbers.
+fn operator_at(phases: &[u32; 6], amplitudes: &[f32; 6], place: usize) -> Operator
+    requires { ⌜ (place < 6) × (length (now phases) ≡ 6) × (length (now amplitudes) ≡ 6) ⌝ }
+    ensures { λ r. ⌜ r ≡ numbered (now (phases .entry)) (now (amplitudes .entry)) place ⌝ }
 {
-    let step = steps[i];
-    let target = targets[i];
-    let phase = phases[i];
-    let amplitude = levels[i];
-    let o = Operator {
-        phase: phase,
-        amplitude: amplitude,
-    };
-    operator::enter(o, step, target, ramp)
+    let phase = phases[place];
+    let amplitude = amplitudes[place];
+    Operator { phase, amplitude }
 }
 
-// And put back.
-fn put_back(phases: &mut [u32; 6], levels: &mut [f32; 6], i: usize, l: Lane)
-    requires { ⌜ i < 6 ⌝ }
-    ensures { λ _. ⌜ (zipped (now (phases .exit)) (now (levels .exit)) ≡ set (zipped (now (phases .entry)) (now (levels .entry))) i (operatorOf l))
-        × (length (now (phases .exit)) ≡ length (now (phases .entry))) × (length (now (levels .exit)) ≡ length (now (levels .entry))) ⌝ }
-{
-    phases[i] = l.phase;
-    levels[i] = l.amplitude;
-}
-
-// The feedback taken out, and put back.
+// The feedback of its numbers.
 fn feedback_of(feedback: &[f32; 2]) -> Feedback
     ensures { λ r. ⌜ r ≡ feedbackOf (now (feedback .entry)) ⌝ }
 {
-    let f = feedback[0];
-    let g = feedback[1];
+    let previous_0 = feedback[0];
+    let previous_1 = feedback[1];
     Feedback {
-        previous_0: f,
-        previous_1: g,
+        previous_0,
+        previous_1,
     }
 }
 
-fn put_feedback(feedback: &mut [f32; 2], f: Feedback)
+// An operator as it enters the block.
+fn take_out(
+    steps: &[u32; 6],
+    targets: &[f32; 6],
+    pace: Pace,
+    phases: &[u32; 6],
+    amplitudes: &[f32; 6],
+    place: usize,
+) -> Lane
+    requires { ⌜ (place < 6) × (length (now phases) ≡ 6) × (length (now amplitudes) ≡ 6) ⌝ }
+    ensures { λ r. ⌜ r ≡ laneAt (settingOf (now (steps .entry)) (now (targets .entry)) pace)
+        (zipped (now (phases .entry)) (now (amplitudes .entry))) place ⌝ }
+{
+    let step = steps[place];
+    let target = targets[place];
+    let operator = operator_at(phases, amplitudes, place);
+    operator::enter(operator, step, target, pace.ramp)
+}
+
+// And as it leaves it.
+fn put_back(phases: &mut [u32; 6], amplitudes: &mut [f32; 6], place: usize, lane: Lane)
+    requires { ⌜ place < 6 ⌝ }
+    ensures { λ _. ⌜ Stored place lane (now (phases .entry)) (now (amplitudes .entry))
+        (now (phases .exit)) (now (amplitudes .exit)) ⌝ }
+{
+    phases[place] = lane.phase;
+    amplitudes[place] = lane.amplitude;
+}
+
+fn put_feedback(feedback: &mut [f32; 2], after: Feedback)
     requires { ⌜ length (now feedback) ≡ 2 ⌝ }
-    ensures { λ _. ⌜ (feedbackOf (now (feedback .exit)) ≡ f) × (length (now (feedback .exit)) ≡ 2) ⌝ }
+    ensures { λ _. ⌜ (feedbackOf (now (feedback .exit)) ≡ after) × (length (now (feedback .exit)) ≡ 2) ⌝ }
 {
-    feedback[0] = f.previous_0;
-    feedback[1] = f.previous_1;
+    feedback[0] = after.previous_0;
+    feedback[1] = after.previous_1;
 }
 
-// The operators of a call, and what it leaves of them.
-fn single_of(
-    steps: &[u32; 6],
-    targets: &[f32; 6],
-    ramp: f32,
-    phases: &[u32; 6],
-    levels: &[f32; 6],
-    feedback: &[f32; 2],
-    first: u8,
+// What a call leaves of one, two and three operators and of the feedback.
+fn put_single(
+    phases: &mut [u32; 6],
+    amplitudes: &mut [f32; 6],
+    feedback: &mut [f32; 2],
+    first: usize,
+    chain: Single,
+)
+    requires { ⌜ (first + 1 ≤ 6) × Lent (now phases) (now amplitudes) (now feedback) ⌝ }
+    ensures { λ _. ⌜ Settled first (one chain) (now (phases .entry)) (now (amplitudes .entry)) (now (feedback .entry))
+        (now (phases .exit)) (now (amplitudes .exit)) (now (feedback .exit)) ⌝ }
+{
+    put_back(phases, amplitudes, first, chain.first);
+    put_feedback(feedback, chain.feedback);
+}
+
+fn put_pair(
+    phases: &mut [u32; 6],
+    amplitudes: &mut [f32; 6],
+    feedback: &mut [f32; 2],
+    first: usize,
+    chain: Pair,
+)
+    requires { ⌜ (first + 2 ≤ 6) × Lent (now phases) (now amplitudes) (now feedback) ⌝ }
+    ensures { λ _. ⌜ Settled first (two chain) (now (phases .entry)) (now (amplitudes .entry)) (now (feedback .entry))
+        (now (phases .exit)) (now (amplitudes .exit)) (now (feedback .exit)) ⌝ }
+{
+    put_back(phases, amplitudes, first, chain.first);
+    put_back(phases, amplitudes, first + 1, chain.second);
+    put_feedback(feedback, chain.feedback);
+}
+
+fn put_triple(
+    phases: &mut [u32; 6],
+    amplitudes: &mut [f32; 6],
+    feedback: &mut [f32; 2],
+    first: usize,
+    chain: Triple,
+)
+    requires { ⌜ (first + 3 ≤ 6) × Lent (now phases) (now amplitudes) (now feedback) ⌝ }
+    ensures { λ _. ⌜ Settled first (three chain) (now (phases .entry)) (now (amplitudes .entry)) (now (feedback .entry))
+        (now (phases .exit)) (now (amplitudes .exit)) (now (feedback .exit)) ⌝ }
+{
+    put_back(phases, amplitudes, first, chain.first);
+    let second = first + 1;
+    put_back(phases, amplitudes, second, chain.second);
+    put_back(phases, amplitudes, second + 1, chain.third);
+    put_feedback(feedback, chain.feedback);
+}
+
+// ---- a call's samples
+
+// One operator: nothing modulates it, or its own last two samples, or the quarter that the call reads.
+fn render_single(
+    pairs: &[f32; 1024],
+    chain: Single,
+    pace: Pace,
+    call: Call,
+    aside: &mut [f32],
+    block: &mut [f32],
 ) -> Single
-    requires { ⌜ (first + 1 ≤ 6) × Lent (now phases) (now levels) (now feedback) ⌝ }
-    ensures { λ r. ⌜ ((scale : Float) → one r ≡ chainAt (settingOf (now (steps .entry)) (now (targets .entry)) ramp scale) (stateOf (now (phases .entry)) (now (levels .entry)) (now (feedback .entry))) first 1) ⌝ }
+    requires { ⌜ Callable call × Quartered (pace .samples) (now block) × (pace .samples ≤ length (now aside)) ⌝ }
+    ensures { λ r. ⌜ Played (now (pairs .entry)) pace call
+        (one chain) (now (block .entry)) (one r) (now (block .exit)) ⌝ }
 {
-    let i = first as usize;
-    let l = take_out(steps, targets, ramp, phases, levels, i);
-    let f = feedback_of(feedback);
-    Single {
-        first: l,
-        feedback: f,
+    let samples = pace.samples;
+    let from = start(call.output, samples);
+    let to = from + samples;
+    if call.input == 0 {
+        return operator::render_none(pairs, chain, call.add, &mut block[from..to]);
     }
+    if call.input == 3 {
+        return operator::render_feedback(
+            pairs,
+            chain,
+            pace.feedback_scale,
+            call.add,
+            &mut block[from..to],
+        );
+    }
+    let read = start(call.input, samples);
+    copy_aside(&block[read..read + samples], aside);
+    operator::render_external(
+        pairs,
+        chain,
+        call.add,
+        &aside[0..samples],
+        &mut block[from..to],
+    )
 }
 
-fn pair_of(
-    steps: &[u32; 6],
-    targets: &[f32; 6],
-    ramp: f32,
-    phases: &[u32; 6],
-    levels: &[f32; 6],
-    feedback: &[f32; 2],
-    first: u8,
-) -> Pair
-    requires { ⌜ (first + 2 ≤ 6) × Lent (now phases) (now levels) (now feedback) ⌝ }
-    ensures { λ r. ⌜ ((scale : Float) → two r ≡ chainAt (settingOf (now (steps .entry)) (now (targets .entry)) ramp scale) (stateOf (now (phases .entry)) (now (levels .entry)) (now (feedback .entry))) first 2) ⌝ }
+// Two or three operators: the last two samples of the last one modulate the first.
+fn render_pair(pairs: &[f32; 1024], chain: Pair, pace: Pace, call: Call, block: &mut [f32]) -> Pair
+    requires { ⌜ Callable call × Quartered (pace .samples) (now block) × (call .input ≡ 3) ⌝ }
+    ensures { λ r. ⌜ Played (now (pairs .entry)) pace call
+        (two chain) (now (block .entry)) (two r) (now (block .exit)) ⌝ }
 {
-    let i = first as usize;
-    let l = take_out(steps, targets, ramp, phases, levels, i);
-    let m = take_out(steps, targets, ramp, phases, levels, i + 1);
-    let f = feedback_of(feedback);
-    Pair {
-        first: l,
-        second: m,
-        feedback: f,
-    }
+    let samples = pace.samples;
+    let from = start(call.output, samples);
+    operator::render_feedback_2(
+        pairs,
+        chain,
+        pace.feedback_scale,
+        call.add,
+        &mut block[from..from + samples],
+    )
 }
 
-fn triple_of(
-    steps: &[u32; 6],
-    targets: &[f32; 6],
-    ramp: f32,
-    phases: &[u32; 6],
-    levels: &[f32; 6],
-    feedback: &[f32; 2],
-    first: u8,
+fn render_triple(
+    pairs: &[f32; 1024],
+    chain: Triple,
+    pace: Pace,
+    call: Call,
+    block: &mut [f32],
 ) -> Triple
-    requires { ⌜ (first + 3 ≤ 6) × Lent (now phases) (now levels) (now feedback) ⌝ }
-    ensures { λ r. ⌜ ((scale : Float) → three r ≡ chainAt (settingOf (now (steps .entry)) (now (targets .entry)) ramp scale) (stateOf (now (phases .entry)) (now (levels .entry)) (now (feedback .entry))) first 3) ⌝ }
+    requires { ⌜ Callable call × Quartered (pace .samples) (now block) × (call .input ≡ 3) ⌝ }
+    ensures { λ r. ⌜ Played (now (pairs .entry)) pace call
+        (three chain) (now (block .entry)) (three r) (now (block .exit)) ⌝ }
 {
-    let i = first as usize;
-    let j = i + 1;
-    let k = j + 1;
-    let l = take_out(steps, targets, ramp, phases, levels, i);
-    let m = take_out(steps, targets, ramp, phases, levels, j);
-    let n = take_out(steps, targets, ramp, phases, levels, k);
-    let f = feedback_of(feedback);
-    Triple {
-        first: l,
-        second: m,
-        third: n,
-        feedback: f,
-    }
+    let samples = pace.samples;
+    let from = start(call.output, samples);
+    operator::render_feedback_3(
+        pairs,
+        chain,
+        pace.feedback_scale,
+        call.add,
+        &mut block[from..from + samples],
+    )
 }
 
-fn single_back(
-    phases: &mut [u32; 6],
-    levels: &mut [f32; 6],
-    feedback: &mut [f32; 2],
-    first: u8,
-    e: Single,
-)
-    requires { ⌜ (first + 1 ≤ 6) × Lent (now phases) (now levels) (now feedback) ⌝ }
-    ensures { λ _. ⌜ (stateOf (now (phases .exit)) (now (levels .exit)) (now (feedback .exit)) ≡ settled (stateOf (now (phases .entry)) (now (levels .entry)) (now (feedback .entry))) first (one e))
-        × Lent (now (phases .exit)) (now (levels .exit)) (now (feedback .exit)) ⌝ }
-{
-    let i = first as usize;
-    let l = e.first;
-    put_back(phases, levels, i, l);
-    let f = e.feedback;
-    put_feedback(feedback, f);
-}
+// ---- calls
 
-fn pair_back(
-    phases: &mut [u32; 6],
-    levels: &mut [f32; 6],
-    feedback: &mut [f32; 2],
-    first: u8,
-    e: Pair,
-)
-    requires { ⌜ (first + 2 ≤ 6) × Lent (now phases) (now levels) (now feedback) ⌝ }
-    ensures { λ _. ⌜ (stateOf (now (phases .exit)) (now (levels .exit)) (now (feedback .exit)) ≡ settled (stateOf (now (phases .entry)) (now (levels .entry)) (now (feedback .entry))) first (two e))
-        × Lent (now (phases .exit)) (now (levels .exit)) (now (feedback .exit)) ⌝ }
-{
-    let i = first as usize;
-    let l = e.first;
-    put_back(phases, levels, i, l);
-    let m = e.second;
-    put_back(phases, levels, i + 1, m);
-    let f = e.feedback;
-    put_feedback(feedback, f);
-}
-
-fn triple_back(
-    phases: &mut [u32; 6],
-    levels: &mut [f32; 6],
-    feedback: &mut [f32; 2],
-    first: u8,
-    e: Triple,
-)
-    requires { ⌜ (first + 3 ≤ 6) × Lent (now phases) (now levels) (now feedback) ⌝ }
-    ensures { λ _. ⌜ (stateOf (now (phases .exit)) (now (levels .exit)) (now (feedback .exit)) ≡ settled (stateOf (now (phases .entry)) (now (levels .entry)) (now (feedback .entry))) first (three e))
-        × Lent (now (phases .exit)) (now (levels .exit)) (now (feedback .exit)) ⌝ }
-{
-    let i = first as usize;
-    let l = e.first;
-    put_back(phases, levels, i, l);
-    let j = i + 1;
-    let m = e.second;
-    put_back(phases, levels, j, m);
-    let k = j + 1;
-    let n = e.third;
-    put_back(phases, levels, k, n);
-    let f = e.feedback;
-    put_feedback(feedback, f);
-}
-
-// A call of each kind. The part of the block that it writes starts at the quarter of its output.
-// p, a and f are the operators' phases, their amplitudes and the feedback; a call without feedback leaves f as it is.
-fn call_none(
-    lut: &[f32; 1024],
+// A call: its operators are taken out, rendered and put back.
+fn run_call(
+    pairs: &[f32; 1024],
     steps: &[u32; 6],
     targets: &[f32; 6],
-    ramp: f32,
-    c: Call,
-    p: &mut [u32; 6],
-    a: &mut [f32; 6],
-    f: &[f32; 2],
-    n: usize,
-    block: &mut [f32],
-)
-    requires { ⌜ Callable c × Quartered n (now block) × (c .input ≡ 0) × Lent (now p) (now a) (now f) ⌝ }
-    ensures { λ _. ⌜ ((scale : Float) → deskOf n (now (p .exit)) (now (a .exit)) (now (f .entry)) (now (block .exit)) ≡ called (now (lut .entry)) (settingOf (now (steps .entry)) (now (targets .entry)) ramp scale) c (deskOf n (now (p .entry)) (now (a .entry)) (now (f .entry)) (now (block .entry))))
-        × Lent (now (p .exit)) (now (a .exit)) (now (f .entry)) ⌝ }
-{
-    let b = start(c.output, n);
-    let s = single_of(steps, targets, ramp, p, a, f, c.first);
-    let e = operator::render_none(lut, s, c.add, &mut block[b..b + n]);
-    let i = c.first as usize;
-    let l = e.first;
-    put_back(p, a, i, l);
-}
-
-fn call_external(
-    lut: &[f32; 1024],
-    steps: &[u32; 6],
-    targets: &[f32; 6],
-    ramp: f32,
-    c: Call,
-    p: &mut [u32; 6],
-    a: &mut [f32; 6],
-    f: &[f32; 2],
-    n: usize,
+    pace: Pace,
+    call: Call,
+    phases: &mut [u32; 6],
+    amplitudes: &mut [f32; 6],
+    feedback: &mut [f32; 2],
     aside: &mut [f32],
     block: &mut [f32],
 )
-    requires { ⌜ Callable c × Quartered n (now block) × (n ≤ length (now aside)) × (1 ≤ c .input) × (c .input < 3) × Lent (now p) (now a) (now f) ⌝ }
-    ensures { λ _. ⌜ ((scale : Float) → deskOf n (now (p .exit)) (now (a .exit)) (now (f .entry)) (now (block .exit)) ≡ called (now (lut .entry)) (settingOf (now (steps .entry)) (now (targets .entry)) ramp scale) c (deskOf n (now (p .entry)) (now (a .entry)) (now (f .entry)) (now (block .entry))))
-        × Lent (now (p .exit)) (now (a .exit)) (now (f .entry)) ⌝ }
+    requires { ⌜ Callable call
+        × Ready (pace .samples) (now phases) (now amplitudes) (now feedback) (now aside) (now block) ⌝ }
+    ensures { λ _. ⌜ Became (called (now (pairs .entry))
+        (settingOf (now (steps .entry)) (now (targets .entry)) pace) call) (pace .samples)
+        (now (phases .entry)) (now (amplitudes .entry)) (now (feedback .entry)) (now (block .entry))
+        (now (phases .exit)) (now (amplitudes .exit)) (now (feedback .exit)) (now (block .exit)) ⌝ }
 {
-    let r = start(c.input, n);
-    copy_aside(&block[r..r + n], aside);
-    let b = start(c.output, n);
-    let s = single_of(steps, targets, ramp, p, a, f, c.first);
-    let e = operator::render_external(lut, s, c.add, &aside[0..n], &mut block[b..b + n]);
-    let i = c.first as usize;
-    let l = e.first;
-    put_back(p, a, i, l);
-}
-
-fn call_feedback(
-    lut: &[f32; 1024],
-    steps: &[u32; 6],
-    targets: &[f32; 6],
-    ramp: f32,
-    scale: f32,
-    c: Call,
-    p: &mut [u32; 6],
-    a: &mut [f32; 6],
-    f: &mut [f32; 2],
-    n: usize,
-    block: &mut [f32],
-)
-    requires { ⌜ Callable c × Quartered n (now block) × (c .input ≡ 3) × (c .n ≡ 1) × Lent (now p) (now a) (now f) ⌝ }
-    ensures { λ _. ⌜ (deskOf n (now (p .exit)) (now (a .exit)) (now (f .exit)) (now (block .exit)) ≡ called (now (lut .entry)) (settingOf (now (steps .entry)) (now (targets .entry)) ramp scale) c (deskOf n (now (p .entry)) (now (a .entry)) (now (f .entry)) (now (block .entry))))
-        × Lent (now (p .exit)) (now (a .exit)) (now (f .exit)) ⌝ }
-{
-    let b = start(c.output, n);
-    let s = single_of(steps, targets, ramp, p, a, f, c.first);
-    let e = operator::render_feedback(lut, s, scale, c.add, &mut block[b..b + n]);
-    single_back(p, a, f, c.first, e);
-}
-
-fn call_feedback_2(
-    lut: &[f32; 1024],
-    steps: &[u32; 6],
-    targets: &[f32; 6],
-    ramp: f32,
-    scale: f32,
-    c: Call,
-    p: &mut [u32; 6],
-    a: &mut [f32; 6],
-    f: &mut [f32; 2],
-    n: usize,
-    block: &mut [f32],
-)
-    requires { ⌜ Callable c × Quartered n (now block) × (c .input ≡ 3) × (c .n ≡ 2) × Lent (now p) (now a) (now f) ⌝ }
-    ensures { λ _. ⌜ (deskOf n (now (p .exit)) (now (a .exit)) (now (f .exit)) (now (block .exit)) ≡ called (now (lut .entry)) (settingOf (now (steps .entry)) (now (targets .entry)) ramp scale) c (deskOf n (now (p .entry)) (now (a .entry)) (now (f .entry)) (now (block .entry))))
-        × Lent (now (p .exit)) (now (a .exit)) (now (f .exit)) ⌝ }
-{
-    let b = start(c.output, n);
-    let s = pair_of(steps, targets, ramp, p, a, f, c.first);
-    let e = operator::render_feedback_2(lut, s, scale, c.add, &mut block[b..b + n]);
-    pair_back(p, a, f, c.first, e);
-}
-
-fn call_feedback_3(
-    lut: &[f32; 1024],
-    steps: &[u32; 6],
-    targets: &[f32; 6],
-    ramp: f32,
-    scale: f32,
-    c: Call,
-    p: &mut [u32; 6],
-    a: &mut [f32; 6],
-    f: &mut [f32; 2],
-    n: usize,
-    block: &mut [f32],
-)
-    requires { ⌜ Callable c × Quartered n (now block) × (c .input ≡ 3) × (c .n ≡ 3) × Lent (now p) (now a) (now f) ⌝ }
-    ensures { λ _. ⌜ (deskOf n (now (p .exit)) (now (a .exit)) (now (f .exit)) (now (block .exit)) ≡ called (now (lut .entry)) (settingOf (now (steps .entry)) (now (targets .entry)) ramp scale) c (deskOf n (now (p .entry)) (now (a .entry)) (now (f .entry)) (now (block .entry))))
-        × Lent (now (p .exit)) (now (a .exit)) (now (f .exit)) ⌝ }
-{
-    let b = start(c.output, n);
-    let s = triple_of(steps, targets, ramp, p, a, f, c.first);
-    let e = operator::render_feedback_3(lut, s, scale, c.add, &mut block[b..b + n]);
-    triple_back(p, a, f, c.first, e);
-}
-
-fn call(
-    lut: &[f32; 1024],
-    steps: &[u32; 6],
-    targets: &[f32; 6],
-    ramp: f32,
-    scale: f32,
-    c: Call,
-    p: &mut [u32; 6],
-    a: &mut [f32; 6],
-    f: &mut [f32; 2],
-    n: usize,
-    aside: &mut [f32],
-    block: &mut [f32],
-)
-    requires { ⌜ Callable c × Quartered n (now block) × (n ≤ length (now aside)) × Lent (now p) (now a) (now f) ⌝ }
-    ensures { λ _. ⌜ (deskOf n (now (p .exit)) (now (a .exit)) (now (f .exit)) (now (block .exit)) ≡ called (now (lut .entry)) (settingOf (now (steps .entry)) (now (targets .entry)) ramp scale) c (deskOf n (now (p .entry)) (now (a .entry)) (now (f .entry)) (now (block .entry))))
-        × Lent (now (p .exit)) (now (a .exit)) (now (f .exit)) ⌝ }
-{
-    if c.input == 0 {
-        call_none(lut, steps, targets, ramp, c, p, a, f, n, block);
+    let at = call.first as usize;
+    let first = take_out(steps, targets, pace, phases, amplitudes, at);
+    let origin = feedback_of(feedback);
+    if call.n == 1 {
+        let chain = Single {
+            first,
+            feedback: origin,
+        };
+        let left = render_single(pairs, chain, pace, call, aside, block);
+        put_single(phases, amplitudes, feedback, at, left);
         return;
     }
-    if c.input != 3 {
-        call_external(lut, steps, targets, ramp, c, p, a, f, n, aside, block);
+    let next = at + 1;
+    let second = take_out(steps, targets, pace, phases, amplitudes, next);
+    if call.n == 2 {
+        let chain = Pair {
+            first,
+            second,
+            feedback: origin,
+        };
+        let left = render_pair(pairs, chain, pace, call, block);
+        put_pair(phases, amplitudes, feedback, at, left);
         return;
     }
-    if c.n == 1 {
-        call_feedback(lut, steps, targets, ramp, scale, c, p, a, f, n, block);
-        return;
-    }
-    if c.n == 2 {
-        call_feedback_2(lut, steps, targets, ramp, scale, c, p, a, f, n, block);
-        return;
-    }
-    call_feedback_3(lut, steps, targets, ramp, scale, c, p, a, f, n, block);
+    let third = take_out(steps, targets, pace, phases, amplitudes, next + 1);
+    let chain = Triple {
+        first,
+        second,
+        third,
+        feedback: origin,
+    };
+    let left = render_triple(pairs, chain, pace, call, block);
+    put_triple(phases, amplitudes, feedback, at, left);
 }
 
-// The calls of a plan, in order, with room for a quarter aside.
+// The calls of a plan, in order.
 fn run_calls(
-    lut: &[f32; 1024],
+    pairs: &[f32; 1024],
     steps: &[u32; 6],
     targets: &[f32; 6],
-    ramp: f32,
-    scale: f32,
+    pace: Pace,
     plan: Plan,
-    p: &mut [u32; 6],
-    a: &mut [f32; 6],
-    f: &mut [f32; 2],
-    n: usize,
+    phases: &mut [u32; 6],
+    amplitudes: &mut [f32; 6],
+    feedback: &mut [f32; 2],
     aside: &mut [f32],
     block: &mut [f32],
 )
-    requires { ⌜ Playable plan × Quartered n (now block) × (n ≤ length (now aside)) × Lent (now p) (now a) (now f) ⌝ }
-    ensures { λ _. ⌜ (deskOf n (now (p .exit)) (now (a .exit)) (now (f .exit)) (now (block .exit)) ≡ calledUpTo (now (lut .entry)) (settingOf (now (steps .entry)) (now (targets .entry)) ramp scale) (plan .calls) (plan .count) (deskOf n (now (p .entry)) (now (a .entry)) (now (f .entry)) (now (block .entry))))
-        × Lent (now (p .exit)) (now (a .exit)) (now (f .exit)) ⌝ }
+    requires { ⌜ Playable plan
+        × Ready (pace .samples) (now phases) (now amplitudes) (now feedback) (now aside) (now block) ⌝ }
+    ensures { λ _. ⌜ Became (calledUpTo (now (pairs .entry))
+        (settingOf (now (steps .entry)) (now (targets .entry)) pace) (plan .calls) (plan .count)) (pace .samples)
+        (now (phases .entry)) (now (amplitudes .entry)) (now (feedback .entry)) (now (block .entry))
+        (now (phases .exit)) (now (amplitudes .exit)) (now (feedback .exit)) (now (block .exit)) ⌝ }
 {
     let count = plan.count as usize;
     let mut k = 0usize;
     while k < count {
-        let c = plan.calls[k];
-        call(
-            lut,
+        let call = plan.calls[k];
+        run_call(
+            pairs,
             steps,
             targets,
-            ramp,
-            scale,
-            c,
-            p,
-            a,
-            f,
-            n,
+            pace,
+            call,
+            phases,
+            amplitudes,
+            feedback,
             aside,
             block,
         );
@@ -431,104 +345,13 @@ fn run_calls(
     }
 }
 
-// A short block needs little room, and clearing more would cost it time.
-fn run_short(
-    lut: &[f32; 1024],
-    steps: &[u32; 6],
-    targets: &[f32; 6],
-    ramp: f32,
-    scale: f32,
-    plan: Plan,
-    p: &mut [u32; 6],
-    a: &mut [f32; 6],
-    f: &mut [f32; 2],
-    n: usize,
-    block: &mut [f32],
-)
-    requires { ⌜ Playable plan × Quartered n (now block) × (n ≤ 64) × Lent (now p) (now a) (now f) ⌝ }
-    ensures { λ _. ⌜ (deskOf n (now (p .exit)) (now (a .exit)) (now (f .exit)) (now (block .exit)) ≡ calledUpTo (now (lut .entry)) (settingOf (now (steps .entry)) (now (targets .entry)) ramp scale) (plan .calls) (plan .count) (deskOf n (now (p .entry)) (now (a .entry)) (now (f .entry)) (now (block .entry))))
-        × Lent (now (p .exit)) (now (a .exit)) (now (f .exit)) ⌝ }
-{
-    let mut aside = [0.0f32; 64];
-    run_calls(
-        lut,
-        steps,
-        targets,
-        ramp,
-        scale,
-        plan,
-        p,
-        a,
-        f,
-        n,
-        &mut aside,
-        block,
-    );
-}
+// ---- a plan
 
-fn run_long(
-    lut: &[f32; 1024],
-    steps: &[u32; 6],
-    targets: &[f32; 6],
-    ramp: f32,
-    scale: f32,
-    plan: Plan,
-    p: &mut [u32; 6],
-    a: &mut [f32; 6],
-    f: &mut [f32; 2],
-    n: usize,
-    block: &mut [f32],
-)
-    requires { ⌜ Playable plan × Quartered n (now block) × Lent (now p) (now a) (now f) ⌝ }
-    ensures { λ _. ⌜ (deskOf n (now (p .exit)) (now (a .exit)) (now (f .exit)) (now (block .exit)) ≡ calledUpTo (now (lut .entry)) (settingOf (now (steps .entry)) (now (targets .entry)) ramp scale) (plan .calls) (plan .count) (deskOf n (now (p .entry)) (now (a .entry)) (now (f .entry)) (now (block .entry))))
-        × Lent (now (p .exit)) (now (a .exit)) (now (f .exit)) ⌝ }
+// The operators as numbers, and back.
+fn phases_of(state: Operators) -> [u32; 6]
+    ensures { λ r. ⌜ r ≡ phasesOf (state .operator) ⌝ }
 {
-    let mut aside = [0.0f32; 1024];
-    run_calls(
-        lut,
-        steps,
-        targets,
-        ramp,
-        scale,
-        plan,
-        p,
-        a,
-        f,
-        n,
-        &mut aside,
-        block,
-    );
-}
-
-fn run(
-    lut: &[f32; 1024],
-    steps: &[u32; 6],
-    targets: &[f32; 6],
-    ramp: f32,
-    scale: f32,
-    plan: Plan,
-    p: &mut [u32; 6],
-    a: &mut [f32; 6],
-    f: &mut [f32; 2],
-    n: usize,
-    block: &mut [f32],
-)
-    requires { ⌜ Playable plan × Quartered n (now block) × Lent (now p) (now a) (now f) ⌝ }
-    ensures { λ _. ⌜ (deskOf n (now (p .exit)) (now (a .exit)) (now (f .exit)) (now (block .exit)) ≡ calledUpTo (now (lut .entry)) (settingOf (now (steps .entry)) (now (targets .entry)) ramp scale) (plan .calls) (plan .count) (deskOf n (now (p .entry)) (now (a .entry)) (now (f .entry)) (now (block .entry))))
-        × Lent (now (p .exit)) (now (a .exit)) (now (f .exit)) ⌝ }
-{
-    if n <= 64 {
-        run_short(lut, steps, targets, ramp, scale, plan, p, a, f, n, block);
-        return;
-    }
-    run_long(lut, steps, targets, ramp, scale, plan, p, a, f, n, block);
-}
-
-// The operators' numbers, and the operators of them.
-fn phases_of(v: Operators) -> [u32; 6]
-    ensures { λ r. ⌜ r ≡ phasesOf (v .operator) ⌝ }
-{
-    let o = v.operator;
+    let o = state.operator;
     [
         o[0].phase,
         o[1].phase,
@@ -539,10 +362,10 @@ fn phases_of(v: Operators) -> [u32; 6]
     ]
 }
 
-fn levels_of(v: Operators) -> [f32; 6]
-    ensures { λ r. ⌜ r ≡ levelsOf (v .operator) ⌝ }
+fn amplitudes_of(state: Operators) -> [f32; 6]
+    ensures { λ r. ⌜ r ≡ amplitudesOf (state .operator) ⌝ }
 {
-    let o = v.operator;
+    let o = state.operator;
     [
         o[0].amplitude,
         o[1].amplitude,
@@ -553,75 +376,86 @@ fn levels_of(v: Operators) -> [f32; 6]
     ]
 }
 
-fn operators_of(phases: [u32; 6], levels: [f32; 6], feedback: [f32; 2]) -> Operators
-    ensures { λ r. ⌜ r ≡ stateOf phases levels feedback ⌝ }
+fn operators_of(phases: &[u32; 6], amplitudes: &[f32; 6], feedback: &[f32; 2]) -> Operators
+    requires { ⌜ Lent (now phases) (now amplitudes) (now feedback) ⌝ }
+    ensures { λ r. ⌜ r ≡ stateOf (now (phases .entry)) (now (amplitudes .entry)) (now (feedback .entry)) ⌝ }
 {
-    let o = Operator {
-        phase: phases[0],
-        amplitude: levels[0],
-    };
-    let p = Operator {
-        phase: phases[1],
-        amplitude: levels[1],
-    };
-    let q = Operator {
-        phase: phases[2],
-        amplitude: levels[2],
-    };
-    let r = Operator {
-        phase: phases[3],
-        amplitude: levels[3],
-    };
-    let s = Operator {
-        phase: phases[4],
-        amplitude: levels[4],
-    };
-    let t = Operator {
-        phase: phases[5],
-        amplitude: levels[5],
-    };
-    let f = Feedback {
-        previous_0: feedback[0],
-        previous_1: feedback[1],
-    };
+    let operator = [
+        operator_at(phases, amplitudes, 0),
+        operator_at(phases, amplitudes, 1),
+        operator_at(phases, amplitudes, 2),
+        operator_at(phases, amplitudes, 3),
+        operator_at(phases, amplitudes, 4),
+        operator_at(phases, amplitudes, 5),
+    ];
+    let feedback_state = feedback_of(feedback);
     Operators {
-        operator: [o, p, q, r, s, t],
-        feedback_state: f,
+        operator,
+        feedback_state,
     }
 }
 
-// A plan's block.
-pub fn run_plan(
-    lut: &[f32; 1024],
+// A plan's block, with room aside for a quarter.
+fn run_with(
+    pairs: &[f32; 1024],
+    state: Operators,
     plan: Plan,
-    v: Operators,
     steps: [u32; 6],
-    amplitudes: [f32; 6],
-    feedback: u8,
+    targets: [f32; 6],
+    amount: u8,
+    aside: &mut [f32],
+    block: &mut [f32],
+) -> Operators
+    requires { ⌜ Playable plan × (length (now block) ≤ 4096) × (length (now block) % 4 ≡ 0)
+        × (length (now block) / 4 ≤ length (now aside)) ⌝ }
+    ensures { λ r. ⌜ record { operators = r; block = now (block .exit) }
+        ≡ ran (now (pairs .entry)) plan steps targets amount state (now (block .entry)) ⌝ }
+{
+    let samples = block.len() / 4;
+    let ramp = operator::ramp_scale(samples as u32);
+    let feedback_scale = operator::feedback_scale(amount);
+    let pace = Pace {
+        samples,
+        ramp,
+        feedback_scale,
+    };
+    let mut phases = phases_of(state);
+    let mut amplitudes = amplitudes_of(state);
+    let before = state.feedback_state;
+    let mut feedback = [before.previous_0, before.previous_1];
+    run_calls(
+        pairs,
+        &steps,
+        &targets,
+        pace,
+        plan,
+        &mut phases,
+        &mut amplitudes,
+        &mut feedback,
+        aside,
+        block,
+    );
+    operators_of(&phases, &amplitudes, &feedback)
+}
+
+// A plan's block. For speed a short block gets less room aside: clearing more than it needs would cost it time.
+pub fn run_plan(
+    pairs: &[f32; 1024],
+    plan: Plan,
+    state: Operators,
+    steps: [u32; 6],
+    targets: [f32; 6],
+    amount: u8,
     block: &mut [f32],
 ) -> Operators
     requires { ⌜ Playable plan × (length (now block) ≤ 4096) × (length (now block) % 4 ≡ 0) ⌝ }
-    ensures { λ r. ⌜ record { operators = r; block = now (block .exit) } ≡ ran (now (lut .entry)) plan steps amplitudes feedback v (now (block .entry)) ⌝ }
+    ensures { λ r. ⌜ record { operators = r; block = now (block .exit) }
+        ≡ ran (now (pairs .entry)) plan steps targets amount state (now (block .entry)) ⌝ }
 {
-    let n = block.len() / 4;
-    let ramp = operator::ramp_scale(n as u32);
-    let scale = operator::feedback_scale(feedback);
-    let mut phases = phases_of(v);
-    let mut levels = levels_of(v);
-    let f = v.feedback_state;
-    let mut fed = [f.previous_0, f.previous_1];
-    run(
-        lut,
-        &steps,
-        &amplitudes,
-        ramp,
-        scale,
-        plan,
-        &mut phases,
-        &mut levels,
-        &mut fed,
-        n,
-        block,
-    );
-    operators_of(phases, levels, fed)
+    if block.len() <= 256 {
+        let mut room = [0.0f32; 64];
+        return run_with(pairs, state, plan, steps, targets, amount, &mut room, block);
+    }
+    let mut room = [0.0f32; 1024];
+    run_with(pairs, state, plan, steps, targets, amount, &mut room, block)
 }

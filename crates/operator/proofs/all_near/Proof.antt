@@ -3,15 +3,12 @@ use mathlib.Core.Path.{_≡_, refl}
 use mathlib.Core.Bool.{_&&_}
 use Prim.Native.Nat.{_-_}
 use lib.ListN.{length, drop}
-use Rattle.operator.specs.Chain.{allNear}
+use Rattle.operator.specs.Parts.{allNear}
 use Rattle.operator.proofs.Parts.{near-turn, near-done}
 use borrow.Author.Needs.{needs}
 use native.Mathlib.Omega.{arith}
 use Rattle.operator.proofs.all_near.Statement.{statement}
 use Rattle.operator.proofs.all_near.Tie as tie
-use Rattle.operator.proofs.all_near.Reads as reads
-use Rattle.operator.proofs.all_near.Lts as lts
-use Rattle.sine.proofs.is_near.Reads as is-near-reads
 
 abbrev Inv-loop : tie.InvT-loop
 Inv-loop modulation near₀ i₀ near i = (near && allNear (drop i modulation)) ≡ allNear modulation
@@ -19,38 +16,30 @@ Inv-loop modulation near₀ i₀ near i = (near && allNear (drop i modulation)) 
 abbrev μ-loop : tie.MeasureT-loop
 μ-loop modulation near₀ i₀ near i = length modulation - i
 
--- src/lib.rt:199:5
 loop-holds : tie.Need-loop-holds Inv-loop μ-loop
 loop-holds c = refl
 
--- src/lib.rt:200:37
 mul-is-near : tie.Need-mul-is-near Inv-loop μ-loop
 mul-is-near c = omega arith
 
--- src/lib.rt:200:37
 shared-slice-read-is-near : tie.Need-shared-slice-read-is-near Inv-loop μ-loop
 shared-slice-read-is-near c = omega arith
 
--- src/lib.rt:200:23
 is-near-requires : tie.Need-is-near-requires Inv-loop μ-loop
 is-near-requires c κs = search needs
 
--- src/lib.rt:201:13
 add-i : tie.Need-add-i Inv-loop μ-loop
 add-i c = omega arith
 
--- src/lib.rt:199:5
 loop-less : tie.Need-loop-less Inv-loop μ-loop
 loop-less c = omega arith
 
--- src/lib.rt:199:5
 loop-again : tie.Need-loop-again Inv-loop μ-loop
 loop-again c =
     let at-loop = c .before .before .before in
     near-turn _ _ (at-loop .loop .near) (c .is-near .result) (at-loop .loop .inv) (c .before .before .loop-test .taken)
     (c .is-near .ensures)
 
--- src/lib.rt:194:1
 returns : tie.Need-returns Inv-loop μ-loop
 returns c = near-done _ _ _ (c .before .loop .inv) (c .loop-test .left)
 

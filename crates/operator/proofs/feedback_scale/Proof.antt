@@ -20,7 +20,9 @@ u32-as-f32-requires c κs = search needs
 
 returns-2 : tie.Need-returns-2
 unfolding feedbackScale decimal ofBits
-returns-2 c = simp (ne-eqb _ _ (c .before .before .if1 .left), c .u32-as-f32 .ensures, c .before .wrapping-shl-u32 .ensures)
+returns-2 c =
+    let not-zero = ne-eqb _ _ (c .before .before .if1 .left) in
+    simp (not-zero, c .u32-as-f32 .ensures, c .before .wrapping-shl-u32 .ensures)
 
 pub feedback-scale-spec : {M : Type 1} → statement M
 feedback-scale-spec =

@@ -3,8 +3,8 @@ use borrow.Author.Needs.{needs}
 use Rattle.operator.proofs.render_external.Statement.{statement}
 use Rattle.operator.proofs.render_external.Tie as tie
 
-either-external-requires : tie.Need-either-external-requires
-either-external-requires c κs = search needs
+either-requires : tie.Need-either-requires
+either-requires c κs = search needs
 
 same-length : tie.Need-same-length
 same-length c = search needs
@@ -12,10 +12,10 @@ same-length c = search needs
 returns : tie.Need-returns
 returns c =
     let at-if1 = c .before .before .before .before in
-    rw (at-if1 .if1 .taken) (c .before .before .either-external .ensures)
+    rw (at-if1 .if1 .taken) (c .before .before .either .ensures)
 
-either-external-requires-2 : tie.Need-either-external-requires-2
-either-external-requires-2 c κs = search needs
+either-requires-2 : tie.Need-either-requires-2
+either-requires-2 c κs = search needs
 
 same-length-2 : tie.Need-same-length-2
 same-length-2 c = search needs
@@ -23,9 +23,9 @@ same-length-2 c = search needs
 returns-2 : tie.Need-returns-2
 returns-2 c =
     let at-if1 = c .before .before .before .before in
-    rw (at-if1 .if1 .left) (c .before .before .either-external2 .ensures)
+    rw (at-if1 .if1 .left) (c .before .before .either2 .ensures)
 
 pub render-external-spec : {M : Type 1} → statement M
 render-external-spec =
     tie.close
-    (tie.spec either-external-requires same-length returns either-external-requires-2 same-length-2 returns-2)
+    (tie.spec either-requires same-length returns either-requires-2 same-length-2 returns-2)

@@ -8,32 +8,34 @@ use borrow.Author.Needs.{needs}
 use native.Mathlib.Omega.{arith}
 use Rattle.operator.specs.Chain.{entered, kept, through, allMoved}
 use Rattle.operator.specs.Chain.Source.{feedback}
-use Rattle.operator.specs.Sample.{sounded}
-use Rattle.operator.proofs.Loop.{Rendering, begin, turn-parts, done}
+use Rattle.operator.specs.Sample.{sampled}
+use Rattle.operator.specs.Parts.{Going}
+use Rattle.operator.proofs.Loop.{going-first, turn-parts, going-done}
 use Rattle.operator.proofs.render_feedback_3.Statement.{statement}
 use Rattle.operator.proofs.render_feedback_3.Tie as tie
 
 abbrev Inv-loop : tie.InvT-loop
-Inv-loop lut scale add out₀ l₀ m₀ n₀ f₀ i₀ out l m n f i =
-    Rendering lut (feedback scale) add (record { lanes = l₀ ∷ m₀ ∷ n₀ ∷ []; feedback = f₀ }) out₀ i (record { lanes = l ∷ m ∷ n ∷ []; feedback = f }) out
+Inv-loop pairs scale add out₀ l₀ m₀ n₀ f₀ i₀ out l m n f i =
+    Going pairs (feedback scale) add
+    0 (record { lanes = l₀ ∷ m₀ ∷ n₀ ∷ []; feedback = f₀ }) out₀ i (record { lanes = l ∷ m ∷ n ∷ []; feedback = f }) out
 
 abbrev μ-loop : tie.MeasureT-loop
-μ-loop lut scale add out₀ l₀ m₀ n₀ f₀ i₀ out l m n f i = length out - i
+μ-loop pairs scale add out₀ l₀ m₀ n₀ f₀ i₀ out l m n f i = length out - i
 
 loop-holds : tie.Need-loop-holds Inv-loop μ-loop
-loop-holds c = begin _ _ _ _ _
+loop-holds c = going-first
 
 feed-requires : tie.Need-feed-requires Inv-loop μ-loop
 feed-requires c κs = search needs
 
-sound-requires : tie.Need-sound-requires Inv-loop μ-loop
-sound-requires c κs = search needs
+sample-requires : tie.Need-sample-requires Inv-loop μ-loop
+sample-requires c κs = search needs
 
-sound-requires-2 : tie.Need-sound-requires-2 Inv-loop μ-loop
-sound-requires-2 c κs = search needs
+sample-requires-2 : tie.Need-sample-requires-2 Inv-loop μ-loop
+sample-requires-2 c κs = search needs
 
-sound-requires-3 : tie.Need-sound-requires-3 Inv-loop μ-loop
-sound-requires-3 c κs = search needs
+sample-requires-3 : tie.Need-sample-requires-3 Inv-loop μ-loop
+sample-requires-3 c κs = search needs
 
 advance-requires : tie.Need-advance-requires Inv-loop μ-loop
 advance-requires c κs = search needs
@@ -80,16 +82,16 @@ loop-again c =
     let at-advance3 = c .before .before .before in
     let at-advance2 = at-advance3 .before in
     let at-advance = at-advance2 .before in
-    let at-sound3 = at-advance .before in
-    let at-sound2 = at-sound3 .before in
-    let at-sound = at-sound2 .before in
-    let at-feed = at-sound .before in
+    let at-sample3 = at-advance .before in
+    let at-sample2 = at-sample3 .before in
+    let at-sample = at-sample2 .before in
+    let at-feed = at-sample .before in
     let at-loop-test = at-feed .before in
     let at-loop = at-loop-test .before in
-    turn-parts _ _ _ _ _ (at-loop .loop .inv) (at-loop-test .loop-test .taken)
-    (at-sound3 .sound3 .ensures ∙ ap (sounded _ _)
-    (at-sound2 .sound2 .ensures ∙ ap (sounded _ _)
-    (at-sound .sound .ensures ∙ ap (sounded _ _) (at-feed .feed .ensures))))
+    turn-parts (at-loop .loop .inv) (at-loop-test .loop-test .taken)
+    (at-sample3 .sample3 .ensures ∙ ap (sampled _ _)
+    (at-sample2 .sample2 .ensures ∙ ap (sampled _ _)
+    (at-sample .sample .ensures ∙ ap (sampled _ _) (at-feed .feed .ensures))))
     (rw (at-advance .advance .ensures, at-advance2 .advance2 .ensures, at-advance3 .advance3 .ensures))
     (c .before .before .push .ensures) (c .mix .ensures)
 
@@ -97,7 +99,7 @@ same-length : tie.Need-same-length Inv-loop μ-loop
 same-length c = c .before .loop .inv .size
 
 returns : tie.Need-returns Inv-loop μ-loop
-returns c = done _ _ _ _ _ (c .before .loop .inv) (c .loop-test .left)
+returns c = going-done (c .before .loop .inv) (c .loop-test .left)
 
 pub render-feedback-3-spec : {M : Type 1} → statement M
 render-feedback-3-spec =
@@ -107,9 +109,9 @@ render-feedback-3-spec =
     μ-loop
     loop-holds
     feed-requires
-    sound-requires
-    sound-requires-2
-    sound-requires-3
+    sample-requires
+    sample-requires-2
+    sample-requires-3
     advance-requires
     advance-requires-2
     advance-requires-3

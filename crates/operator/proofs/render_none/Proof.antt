@@ -10,22 +10,24 @@ use native.Mathlib.Omega.{arith}
 use Rattle.numbers.specs.F32.{decimal}
 use Rattle.operator.specs.Chain.{entered, kept, through, allMoved}
 use Rattle.operator.specs.Chain.Source.{none, feedback}
-use Rattle.operator.proofs.Loop.{Rendering, begin, turn-parts, done}
+use Rattle.operator.specs.Parts.{Going}
+use Rattle.operator.proofs.Loop.{going-first, turn-parts, going-done}
 use Rattle.operator.proofs.render_none.Statement.{statement}
 use Rattle.operator.proofs.render_none.Tie as tie
 
 abbrev Inv-loop : tie.InvT-loop
-Inv-loop lut add out₀ l₀ f i₀ out l i =
-    Rendering lut none add (record { lanes = l₀ ∷ []; feedback = f }) out₀ i (record { lanes = l ∷ []; feedback = f }) out
+Inv-loop pairs add out₀ l₀ f i₀ out l i =
+    Going pairs none add
+    0 (record { lanes = l₀ ∷ []; feedback = f }) out₀ i (record { lanes = l ∷ []; feedback = f }) out
 
 abbrev μ-loop : tie.MeasureT-loop
-μ-loop lut add out₀ l₀ f i₀ out l i = length out - i
+μ-loop pairs add out₀ l₀ f i₀ out l i = length out - i
 
 loop-holds : tie.Need-loop-holds Inv-loop μ-loop
-loop-holds c = begin _ _ _ _ _
+loop-holds c = going-first
 
-sound-requires : tie.Need-sound-requires Inv-loop μ-loop
-sound-requires c κs = search needs
+sample-requires : tie.Need-sample-requires Inv-loop μ-loop
+sample-requires c κs = search needs
 
 advance-requires : tie.Need-advance-requires Inv-loop μ-loop
 advance-requires c κs = search needs
@@ -54,18 +56,17 @@ loop-less c = simp length-set (omega arith)
 loop-again : tie.Need-loop-again Inv-loop μ-loop
 unfolding entered kept through allMoved decimal ofBits
 loop-again c =
-    let at-sound = c .before .before .before in
-    let at-loop-test = at-sound .before in
+    let at-sample = c .before .before .before in
+    let at-loop-test = at-sample .before in
     let at-loop = at-loop-test .before in
-    turn-parts _ _ _ _ _ (at-loop .loop .inv) (at-loop-test .loop-test .taken)
-    (at-sound .sound .ensures)
-    (rw (c .before .before .advance .ensures)) (refl) (c .mix .ensures)
+    turn-parts (at-loop .loop .inv) (at-loop-test .loop-test .taken) (at-sample .sample .ensures)
+    (rw (c .before .before .advance .ensures)) refl (c .mix .ensures)
 
 same-length : tie.Need-same-length Inv-loop μ-loop
 same-length c = c .before .loop .inv .size
 
 returns : tie.Need-returns Inv-loop μ-loop
-returns c = done _ _ _ _ _ (c .before .loop .inv) (c .loop-test .left)
+returns c = going-done (c .before .loop .inv) (c .loop-test .left)
 
 pub render-none-spec : {M : Type 1} → statement M
 render-none-spec =
@@ -74,7 +75,7 @@ render-none-spec =
     Inv-loop
     μ-loop
     loop-holds
-    sound-requires
+    sample-requires
     advance-requires
     mul-mix
     slice-read-mix

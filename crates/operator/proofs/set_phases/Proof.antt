@@ -1,68 +1,52 @@
 -- `operator::set_phases` meets its contract. Assumes nothing.
-use mathlib.Core.Path.{_≡_, refl, subst, _∙_}
-use denote.Ref.{now}
-use Prim.Native.Nat.{ℕ, _-_, _≤_}
+use mathlib.Core.Path.{_≡_}
+use Prim.Native.Nat.{_-_, _≤_}
 use lib.ListN.{length}
-use Rattle.operator.specs.Chain.{Placed}
 use Rattle.operator.proofs.Parts.{Placing, placing-first, placing-turn, near-at, set-length}
 use borrow.Author.Needs.{needs}
 use native.Mathlib.Omega.{arith}
 use Rattle.operator.proofs.set_phases.Statement.{statement}
 use Rattle.operator.proofs.set_phases.Tie as tie
-use Rattle.operator.proofs.set_phases.Reads as reads
-use Rattle.operator.proofs.set_phases.Lts as lts
-use Rattle.numbers.proofs.wrapping_add_u32.Reads as wrapping-add-u32-reads
-use Rattle.sine.proofs.modulate_near.Reads as modulate-near-reads
 
 abbrev Inv-loop : tie.InvT-loop
-Inv-loop modulation i n phase step at₀ p₀ k₀ at p k = Placing modulation i phase step k p at × (length at ≡ 64) × (k ≤ n)
+Inv-loop modulation i n phase step at₀ p₀ k₀ at p k =
+    Placing modulation i phase step k p at × (length at ≡ 64) × (k ≤ n)
 
 abbrev μ-loop : tie.MeasureT-loop
 μ-loop modulation i n phase step at₀ p₀ k₀ at p k = n - k
 
--- src/lib.rt:213:5
 loop-holds : tie.Need-loop-holds Inv-loop μ-loop
 loop-holds c = (placing-first _ _ _ _ _, c .before .pre .3, omega arith)
 
--- src/lib.rt:214:9
 wrapping-add-u32-requires : tie.Need-wrapping-add-u32-requires Inv-loop μ-loop
 wrapping-add-u32-requires c κs = search needs
 
--- src/lib.rt:215:51
 add-modulate-near : tie.Need-add-modulate-near Inv-loop μ-loop
 add-modulate-near c = omega arith
 
--- src/lib.rt:215:40
 mul-modulate-near : tie.Need-mul-modulate-near Inv-loop μ-loop
 mul-modulate-near c = omega arith
 
--- src/lib.rt:215:40
 shared-slice-read-modulate-near : tie.Need-shared-slice-read-modulate-near Inv-loop μ-loop
 shared-slice-read-modulate-near c = omega arith
 
--- src/lib.rt:215:17
 modulate-near-requires : tie.Need-modulate-near-requires Inv-loop μ-loop
 modulate-near-requires c κs =
     let at-pre = c .before .before .before .before .before in
     near-at _ _ (at-pre .pre .0) (omega arith)
 
--- src/lib.rt:215:9
 mul-at : tie.Need-mul-at Inv-loop μ-loop
 mul-at c = omega arith
 
--- src/lib.rt:215:9
 element-write-at : tie.Need-element-write-at Inv-loop μ-loop
 element-write-at c = omega arith
 
--- src/lib.rt:216:13
 add-k : tie.Need-add-k Inv-loop μ-loop
 add-k c = omega arith
 
--- src/lib.rt:213:5
 loop-less : tie.Need-loop-less Inv-loop μ-loop
 loop-less c = omega arith
 
--- src/lib.rt:213:5
 loop-again : tie.Need-loop-again Inv-loop μ-loop
 loop-again c =
     let at-loop = c .before .before .before .before in
@@ -74,12 +58,13 @@ loop-again c =
       omega arith,
     )
 
--- src/lib.rt:207:1
 returns : tie.Need-returns Inv-loop μ-loop
 returns c =
     let at-start = c .before .before .before in
     let v = c .before .loop .inv in
-    (subst (λ (k : ℕ). Placed (now (at-start .args .modulation)) (at-start .args .i) k (at-start .args .phase) (at-start .args .step) (c .before .loop .at)) (omega arith) (v .0 .before), v .1)
+    let a = at-start .args in
+    let all : c .before .loop .k ≡ a .n = omega arith in
+    ((rw all at (v .0 .before)), v .1)
 
 pub set-phases-spec : {M : Type 1} → statement M
 set-phases-spec =

@@ -1,4 +1,5 @@
--- `voice_block::copy_aside` meets its contract. The loop's invariant: the first i samples are those of s, and the length is as it was.
+-- `voice_block::copy_aside` meets its contract. The loop's invariant: the first i samples are those of the quarter, and
+-- the length is as it was.
 -- Assumes nothing.
 use mathlib.Core.Path.{_≡_, refl, _∙_}
 use mathlib.Core.List.{List}
@@ -13,14 +14,16 @@ use Rattle.voice_block.proofs.copy_aside.Statement.{statement}
 use Rattle.voice_block.proofs.copy_aside.Tie as tie
 
 -- a turn's store takes the copy of i samples to that of one more
-store : (a s : List Float) (i : ℕ) → i < length a → i < length s → take i a ≡ take i s → take (i + 1) (set a i (getD s i nan)) ≡ take (i + 1) s
+store : (a s : List Float) (i : ℕ) → i < length a → i < length s → take i a ≡ take i s
+    → take (i + 1) (set a i (getD s i nan)) ≡ take (i + 1) s
 store a s i h k e = rw (add-one i, take-suc-set a i (getD s i nan) h, take-suc s i nan k, e)
 
 abbrev Inv-loop : tie.InvT-loop
-Inv-loop s aside₀ i₀ aside i = (i ≤ length s) × (take i aside ≡ take i s) × (length aside ≡ length aside₀)
+Inv-loop quarter aside₀ i₀ aside i =
+    (i ≤ length quarter) × (take i aside ≡ take i quarter) × (length aside ≡ length aside₀)
 
 abbrev μ-loop : tie.MeasureT-loop
-μ-loop s aside₀ i₀ aside i = length s - i
+μ-loop quarter aside₀ i₀ aside i = length quarter - i
 
 loop-holds : tie.Need-loop-holds Inv-loop μ-loop
 loop-holds c = (omega arith, refl, refl)
@@ -46,14 +49,15 @@ loop-less c = omega arith
 loop-again : tie.Need-loop-again Inv-loop μ-loop
 loop-again c =
     let at = c .before .before in
-    (omega arith, store (at .loop .aside) (at .before .args .s .now) (at .loop .i) (omega arith) (omega arith) (at .loop .inv .1), simp length-set (at .loop .inv .2))
+    let copied = store (at .loop .aside) (at .before .args .quarter .now) (at .loop .i) (omega arith) (omega arith) in
+    (omega arith, copied (at .loop .inv .1), simp length-set (at .loop .inv .2))
 
 same-length : tie.Need-same-length Inv-loop μ-loop
 same-length c = c .before .loop .inv .2
 
 returns : tie.Need-returns Inv-loop μ-loop
 returns c =
-    let s = now (c .before .before .args .s) in
+    let s = now (c .before .before .args .quarter) in
     let e : c .before .loop .i ≡ length s = omega arith in
     (rw e at (c .before .loop .inv .1)) ∙ take-length s
 

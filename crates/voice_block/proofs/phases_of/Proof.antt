@@ -9,7 +9,7 @@ use Rattle.voice_block.proofs.State.{six}
 use Rattle.voice_block.proofs.phases_of.Statement.{statement}
 use Rattle.voice_block.proofs.phases_of.Tie as tie
 
-long : (c : tie.Start) → length (c .args .v .operator) ≡ 6
+long : (c : tie.Start) → length (c .args .state .operator) ≡ 6
 long c = simp length-map at (c .good .0 .1 .1 .0 .1 .0 .1)
 
 element-copy-out-t5 : tie.Need-element-copy-out-t5
@@ -32,7 +32,7 @@ element-copy-out-t20 c = search needs
 
 returns : tie.Need-returns
 unfolding phasesOf
-returns c = ap phasesOf (six noOperator (c .before .args .v .operator) (long (c .before)))
+returns c = ap phasesOf (six noOperator (c .before .args .state .operator) (long (c .before)))
 
 pub phases-of-spec : {M : Type 1} → statement M
 phases-of-spec =

@@ -13,18 +13,24 @@ mul-phases c = search needs
 element-write-phases : tie.Need-element-write-phases
 element-write-phases c = search needs
 
-mul-levels : tie.Need-mul-levels
-mul-levels c = search needs
+mul-amplitudes : tie.Need-mul-amplitudes
+mul-amplitudes c = search needs
 
-element-write-levels : tie.Need-element-write-levels
-element-write-levels c = search needs
+element-write-amplitudes : tie.Need-element-write-amplitudes
+element-write-amplitudes c = search needs
 
 returns : tie.Need-returns
 returns c =
     let p = now (c .args .phases) in
-    let a = now (c .args .levels) in
-    (zipped-set p a (c .args .i) (c .args .l), length-set p (c .args .i) (c .args .l .phase), length-set a (c .args .i) (c .args .l .amplitude))
+    let a = now (c .args .amplitudes) in
+    let i = c .args .place in
+    let l = c .args .lane in
+    record {
+      operators = zipped-set p a i l;
+      as-phases = length-set p i (l .phase);
+      as-amplitudes = length-set a i (l .amplitude);
+    }
 
 pub put-back-spec : {M : Type 1} → statement M
 put-back-spec =
-    tie.close (tie.spec mul-phases element-write-phases mul-levels element-write-levels returns)
+    tie.close (tie.spec mul-phases element-write-phases mul-amplitudes element-write-amplitudes returns)

@@ -14,7 +14,7 @@ element-write-feedback-2 : tie.Need-element-write-feedback-2
 element-write-feedback-2 c = search needs
 
 returns : tie.Need-returns
-returns c = (feedback-set (now (c .args .feedback)) (c .args .f) (c .pre), simp (length-set, length-set) (c .pre))
+returns c = (feedback-set (now (c .args .feedback)) (c .args .after) (c .pre), simp (length-set, length-set) (c .pre))
 
 pub put-feedback-spec : {M : Type 1} → statement M
 put-feedback-spec = tie.close (tie.spec element-write-feedback element-write-feedback-2 returns)

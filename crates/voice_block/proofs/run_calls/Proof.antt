@@ -1,4 +1,5 @@
--- `voice_block::run_calls` meets its contract. The loop's invariant: the desk is what the first k calls make of the one at entry.
+-- `voice_block::run_calls` meets its contract. The loop's invariant: the desk is what the first k calls make of the one
+-- at entry.
 -- Assumes nothing.
 use mathlib.Core.Path.{_≡_, refl, ap, _∙_}
 use Prim.Native.Nat.{_-_, _≤_}
@@ -8,41 +9,48 @@ use denote.Ref.{now}
 use lib.ListN.{length, getD}
 use Rattle.algorithms.specs.Plan.{noCall}
 use Rattle.voice_block.specs.Calls.{called, calledUpTo}
-use Rattle.voice_block.specs.State.{settingOf, deskOf, Lent}
+use Rattle.voice_block.specs.State.{settingOf, Became}
 use Rattle.voice_block.proofs.run_calls.Statement.{statement}
 use Rattle.voice_block.proofs.run_calls.Tie as tie
 
 abbrev Inv-loop : tie.InvT-loop
-Inv-loop lut steps targets ramp scale p₀ a₀ f₀ n aside₀ block₀ plan count k₀ p a f aside block k =
-    (k ≤ plan .count) × (deskOf n p a f block ≡ calledUpTo lut (settingOf steps targets ramp scale) (plan .calls) k (deskOf n p₀ a₀ f₀ block₀))
-    × (length block ≡ length block₀) × (length aside ≡ length aside₀) × Lent p a f
+Inv-loop pairs steps targets pace phases₀ amplitudes₀ feedback₀ aside₀ block₀ plan count k₀
+    phases amplitudes feedback aside block k =
+    (k ≤ plan .count)
+    × Became (calledUpTo pairs (settingOf steps targets pace) (plan .calls) k) (pace .samples)
+    phases₀ amplitudes₀ feedback₀ block₀ phases amplitudes feedback block
+    × (length block ≡ length block₀) × (length aside ≡ length aside₀)
 
 abbrev μ-loop : tie.MeasureT-loop
-μ-loop lut steps targets ramp scale p₀ a₀ f₀ n aside₀ block₀ plan count k₀ p a f aside block k = plan .count - k
+μ-loop pairs steps targets pace phases₀ amplitudes₀ feedback₀ aside₀ block₀ plan count k₀
+    phases amplitudes feedback aside block k = plan .count - k
 
 cast-count : tie.Need-cast-count Inv-loop μ-loop
 cast-count c = omega arith
 
 loop-holds : tie.Need-loop-holds Inv-loop μ-loop
 unfolding calledUpTo
-loop-holds c = (omega arith, refl, refl, refl, c .before .before .pre .3)
+loop-holds c = (omega arith, record { desk = refl; lent = c .before .before .pre .1 .lent }, refl, refl)
 
-mul-c : tie.Need-mul-c Inv-loop μ-loop
-mul-c c = omega arith
+mul-call : tie.Need-mul-call Inv-loop μ-loop
+mul-call c = omega arith
 
-element-copy-out-c : tie.Need-element-copy-out-c Inv-loop μ-loop
-element-copy-out-c c = omega arith
+element-copy-out-call : tie.Need-element-copy-out-call Inv-loop μ-loop
+element-copy-out-call c = omega arith
 
-call-requires : tie.Need-call-requires Inv-loop μ-loop
-call-requires c κs =
+run-call-requires : tie.Need-run-call-requires Inv-loop μ-loop
+run-call-requires c κs =
     let at-loop-test = c .before .before .before .before .before .before in
     let at-loop = at-loop-test .before in
-    let at-pre = at-loop .before .before .before in (
-      at-pre .pre .0 .calls (at-loop .loop .k)
-          (at-loop-test .loop-test .taken),
-      record { small = omega arith; whole = omega arith },
-      omega arith,
-      at-loop .loop .inv .4,
+    let at-pre = at-loop .before .before .before in
+    let block = at-pre .pre .1 .quartered in
+    let room = at-pre .pre .1 .room in (
+      at-pre .pre .0 .calls (at-loop .loop .k) (at-loop-test .loop-test .taken),
+      record {
+        quartered = record { small = omega arith; whole = omega arith };
+        room = omega arith;
+        lent = at-loop .loop .inv .1 .lent;
+      },
     )
 
 add-k : tie.Need-add-k Inv-loop μ-loop
@@ -54,20 +62,20 @@ loop-less c = omega arith
 loop-again : tie.Need-loop-again Inv-loop μ-loop
 unfolding calledUpTo
 loop-again c =
-    let at-call = c .before .before .before .before in
-    let far = at-call .before .before .before .before .before .before .before in
-    let at-start = far .before .before .before .before in
-    let one = at-call .call in
-    let at = c .before .before .before .before .before .before .before .before .before .before .before .before in
-    let start = at-start .args in
-    let g = settingOf (now (start .steps)) (now (start .targets)) (start .ramp) (start .scale) in (
+    let at-run-call = c .before .before .before .before in
+    let far = at-run-call .before .before .before .before .before .before .before in
+    let at = far .before in
+    let start = at .before .before .before .args in
+    let one = at-run-call .run-call in
+    let g = settingOf (now (start .steps)) (now (start .targets)) (start .pace) in
+    let next = called (now (start .pairs)) g (getD (start .t5 .calls) (at .loop .k) noCall) in (
       omega (arith, far),
-      rw (add-one (at .loop .k))
-          (one .ensures .0 ∙ ap (called (now (start .lut)) g (getD (start .t6 .calls) (at .loop .k) noCall))
-          (at .loop .inv .1)),
-      one .kept .1 .1 .1 .1 .1 .1 .1 .1 .1 .1 .1 .0 ∙ at .loop .inv .2,
-      one .kept .1 .1 .1 .1 .1 .1 .1 .1 .1 .1 .0 ∙ at .loop .inv .3,
-      one .ensures .1,
+      record {
+        desk = rw (add-one (at .loop .k)) (one .ensures .desk ∙ ap next (at .loop .inv .1 .desk));
+        lent = one .ensures .lent;
+      },
+      one .kept .1 .1 .1 .1 .1 .1 .1 .1 .1 .0 ∙ at .loop .inv .2,
+      one .kept .1 .1 .1 .1 .1 .1 .1 .1 .0 ∙ at .loop .inv .3,
     )
 
 same-length : tie.Need-same-length Inv-loop μ-loop
@@ -79,8 +87,8 @@ same-length-2 c = c .before .loop .inv .2
 returns : tie.Need-returns Inv-loop μ-loop
 returns c =
     let at-start = c .before .before .before .before in
-    let k : c .before .loop .k ≡ at-start .args .t6 .count = omega arith in
-    ((rw k at (c .before .loop .inv .1)), c .before .loop .inv .4)
+    let k : c .before .loop .k ≡ at-start .args .t5 .count = omega arith in
+    rw k at (c .before .loop .inv .1)
 
 pub run-calls-spec : {M : Type 1} → statement M
 run-calls-spec =
@@ -90,9 +98,9 @@ run-calls-spec =
     μ-loop
     cast-count
     loop-holds
-    mul-c
-    element-copy-out-c
-    call-requires
+    mul-call
+    element-copy-out-call
+    run-call-requires
     add-k
     loop-less
     loop-again

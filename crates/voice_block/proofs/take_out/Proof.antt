@@ -5,8 +5,8 @@ use Prim.Native.Nat.{_<_}
 use native.Mathlib.Omega.{arith}
 use denote.Ref.{now}
 use lib.ListN.{length}
-use borrow.Author.Needs.{needs}
 use Rattle.voice_block.proofs.State.{lane-law}
+use borrow.Author.Needs.{needs}
 use Rattle.voice_block.proofs.take_out.Statement.{statement}
 use Rattle.voice_block.proofs.take_out.Tie as tie
 
@@ -22,27 +22,18 @@ mul-target c = search needs
 element-copy-out-target : tie.Need-element-copy-out-target
 element-copy-out-target c = search needs
 
-mul-phase : tie.Need-mul-phase
-mul-phase c = search needs
-
-element-copy-out-phase : tie.Need-element-copy-out-phase
-element-copy-out-phase c = search needs
-
-mul-amplitude : tie.Need-mul-amplitude
-mul-amplitude c = search needs
-
-element-copy-out-amplitude : tie.Need-element-copy-out-amplitude
-element-copy-out-amplitude c = search needs
+operator-at-requires : tie.Need-operator-at-requires
+operator-at-requires c κs = search needs
 
 enter-requires : tie.Need-enter-requires
 enter-requires c κs = search needs
 
 returns : tie.Need-returns
 returns c =
-    let at = c .before .before .before .before .before in
-    let p : at .args .i < length (now (at .args .phases)) = omega arith in
-    let a : at .args .i < length (now (at .args .levels)) = omega arith in
-    λ scale. c .enter .ensures ∙ lane-law (now (at .args .steps)) (now (at .args .targets)) (at .args .ramp) scale (now (at .args .phases)) (now (at .args .levels)) (at .args .i) p a
+    let at = c .before .before .before .before in
+    let p : at .args .place < length (now (at .args .phases)) = omega arith in
+    let a : at .args .place < length (now (at .args .amplitudes)) = omega arith in
+    c .enter .ensures ∙ lane-law _ _ (at .args .pace) _ _ (at .args .place) _ p a (c .before .operator-at .ensures)
 
 pub take-out-spec : {M : Type 1} → statement M
 take-out-spec =
@@ -52,9 +43,6 @@ take-out-spec =
     element-copy-out-step
     mul-target
     element-copy-out-target
-    mul-phase
-    element-copy-out-phase
-    mul-amplitude
-    element-copy-out-amplitude
+    operator-at-requires
     enter-requires
     returns)

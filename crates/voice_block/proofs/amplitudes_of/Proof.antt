@@ -1,15 +1,15 @@
--- `voice_block::levels_of` meets its contract.
+-- `voice_block::amplitudes_of` meets its contract.
 -- Assumes nothing.
 use mathlib.Core.Path.{ap, _≡_}
 use lib.ListN.{length, length-map}
 use borrow.Author.Needs.{needs}
 use Rattle.voice_block.specs.Calls.{noOperator}
-use Rattle.voice_block.specs.State.{levelsOf}
+use Rattle.voice_block.specs.State.{amplitudesOf}
 use Rattle.voice_block.proofs.State.{six}
-use Rattle.voice_block.proofs.levels_of.Statement.{statement}
-use Rattle.voice_block.proofs.levels_of.Tie as tie
+use Rattle.voice_block.proofs.amplitudes_of.Statement.{statement}
+use Rattle.voice_block.proofs.amplitudes_of.Tie as tie
 
-long : (c : tie.Start) → length (c .args .v .operator) ≡ 6
+long : (c : tie.Start) → length (c .args .state .operator) ≡ 6
 long c = simp length-map at (c .good .0 .1 .1 .0 .1 .0 .1)
 
 element-copy-out-t5 : tie.Need-element-copy-out-t5
@@ -31,11 +31,11 @@ element-copy-out-t20 : tie.Need-element-copy-out-t20
 element-copy-out-t20 c = search needs
 
 returns : tie.Need-returns
-unfolding levelsOf
-returns c = ap levelsOf (six noOperator (c .before .args .v .operator) (long (c .before)))
+unfolding amplitudesOf
+returns c = ap amplitudesOf (six noOperator (c .before .args .state .operator) (long (c .before)))
 
-pub levels-of-spec : {M : Type 1} → statement M
-levels-of-spec =
+pub amplitudes-of-spec : {M : Type 1} → statement M
+amplitudes-of-spec =
     tie.close
     (tie.spec
     element-copy-out-t5

@@ -1,9 +1,9 @@
--- `operator::sound` meets its contract.
+-- `operator::sample` meets its contract.
 -- Assumes nothing.
 use borrow.Author.Needs.{needs}
-use Rattle.operator.specs.Sample.{sounded}
-use Rattle.operator.proofs.sound.Statement.{statement}
-use Rattle.operator.proofs.sound.Tie as tie
+use Rattle.operator.specs.Sample.{sampled}
+use Rattle.operator.proofs.sample.Statement.{statement}
+use Rattle.operator.proofs.sample.Tie as tie
 
 wrapping-add-u32-requires : tie.Need-wrapping-add-u32-requires
 wrapping-add-u32-requires c κs = search needs
@@ -12,8 +12,8 @@ sine-pm-requires : tie.Need-sine-pm-requires
 sine-pm-requires c κs = search needs
 
 returns : tie.Need-returns
-unfolding sounded
+unfolding sampled
 returns c = simp (c .before .sine-pm .ensures, c .before .before .wrapping-add-u32 .ensures)
 
-pub sound-spec : {M : Type 1} → statement M
-sound-spec = tie.close (tie.spec wrapping-add-u32-requires sine-pm-requires returns)
+pub sample-spec : {M : Type 1} → statement M
+sample-spec = tie.close (tie.spec wrapping-add-u32-requires sine-pm-requires returns)

@@ -1,4 +1,4 @@
--- `operator::external` meets its contract: a turn of its loop is a sample of the definition.
+-- `operator::far` meets its contract: a turn of its loop is a sample of the definition.
 -- Assumes nothing.
 use mathlib.Core.Path.{refl}
 use mathlib.Core.List.{[], _∷_}
@@ -8,28 +8,30 @@ use borrow.Author.Needs.{needs}
 use native.Mathlib.Omega.{arith}
 use Rattle.operator.specs.Chain.{entered, kept, through, allMoved}
 use Rattle.operator.specs.Chain.Source.{external, feedback}
-use Rattle.operator.proofs.Loop.{Rendering, begin, turn-parts, done}
-use Rattle.operator.proofs.external.Statement.{statement}
-use Rattle.operator.proofs.external.Tie as tie
+use Rattle.operator.specs.Parts.{Going}
+use Rattle.operator.proofs.Loop.{going-first, turn-parts, going-done}
+use Rattle.operator.proofs.far.Statement.{statement}
+use Rattle.operator.proofs.far.Tie as tie
 
 abbrev Inv-loop : tie.InvT-loop
-Inv-loop lut add modulation out₀ l₀ f i₀ out l i =
-    Rendering lut (external modulation) add (record { lanes = l₀ ∷ []; feedback = f }) out₀ i (record { lanes = l ∷ []; feedback = f }) out
+Inv-loop pairs add modulation out₀ l₀ f i₀ out l i =
+    Going pairs (external modulation) add
+    0 (record { lanes = l₀ ∷ []; feedback = f }) out₀ i (record { lanes = l ∷ []; feedback = f }) out
 
 abbrev μ-loop : tie.MeasureT-loop
-μ-loop lut add modulation out₀ l₀ f i₀ out l i = length out - i
+μ-loop pairs add modulation out₀ l₀ f i₀ out l i = length out - i
 
 loop-holds : tie.Need-loop-holds Inv-loop μ-loop
-loop-holds c = begin _ _ _ _ _
+loop-holds c = going-first
 
-mul-sound : tie.Need-mul-sound Inv-loop μ-loop
-mul-sound c = omega arith
+mul-sample : tie.Need-mul-sample Inv-loop μ-loop
+mul-sample c = omega arith
 
-shared-slice-read-sound : tie.Need-shared-slice-read-sound Inv-loop μ-loop
-shared-slice-read-sound c = omega arith
+shared-slice-read-sample : tie.Need-shared-slice-read-sample Inv-loop μ-loop
+shared-slice-read-sample c = omega arith
 
-sound-requires : tie.Need-sound-requires Inv-loop μ-loop
-sound-requires c κs = search needs
+sample-requires : tie.Need-sample-requires Inv-loop μ-loop
+sample-requires c κs = search needs
 
 advance-requires : tie.Need-advance-requires Inv-loop μ-loop
 advance-requires c κs = search needs
@@ -58,29 +60,29 @@ loop-less c = simp length-set (omega arith)
 loop-again : tie.Need-loop-again Inv-loop μ-loop
 unfolding entered kept through allMoved
 loop-again c =
-    let at-sound = c .before .before .before in
-    let at-loop-test = at-sound .before .before in
+    let at-sample = c .before .before .before in
+    let at-loop-test = at-sample .before .before in
     let at-loop = at-loop-test .before in
-    turn-parts _ _ _ _ _ (at-loop .loop .inv) (at-loop-test .loop-test .taken)
-    (at-sound .sound .ensures)
-    (rw (c .before .before .advance .ensures)) (refl) (c .mix .ensures)
+    let moved = c .before .before .advance .ensures in
+    turn-parts (at-loop .loop .inv) (at-loop-test .loop-test .taken) (at-sample .sample .ensures) (rw moved) refl
+    (c .mix .ensures)
 
 same-length : tie.Need-same-length Inv-loop μ-loop
 same-length c = c .before .loop .inv .size
 
 returns : tie.Need-returns Inv-loop μ-loop
-returns c = done _ _ _ _ _ (c .before .loop .inv) (c .loop-test .left)
+returns c = going-done (c .before .loop .inv) (c .loop-test .left)
 
-pub external-spec : {M : Type 1} → statement M
-external-spec =
+pub far-spec : {M : Type 1} → statement M
+far-spec =
     tie.close
     (tie.spec
     Inv-loop
     μ-loop
     loop-holds
-    mul-sound
-    shared-slice-read-sound
-    sound-requires
+    mul-sample
+    shared-slice-read-sample
+    sample-requires
     advance-requires
     mul-mix
     slice-read-mix
