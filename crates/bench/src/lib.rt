@@ -392,12 +392,12 @@ pub extern "C" fn bench_voice(bytes: &[u8], note: f32, blocks: u32, block: &mut 
     let loaded = voice::set_patch(fresh, patch, &table);
     let dirty = loaded.voice;
     let p = VoiceParameters {
-        sustain: false,
-        gate: true,
-        note: note,
+        note,
         velocity: 0.8,
         brightness: 0.5,
         envelope_control: 0.5,
+        sustain: false,
+        gate: true,
         pitch_mod: 0.0,
         amp_mod: 0.0,
     };

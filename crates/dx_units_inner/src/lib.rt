@@ -1,8 +1,8 @@
 // The conversions of dx_units.rs themselves, in its order, for callers that have checked their fields, and the step for
 // a frequency, after operator.rs. Each promises its definition; where a table is looked up, the field is asked to be in
 // bounds. `pow_2_fast` is in `dx_units_power`; the entries, which refuse what is out of range, are in `dx_units`.
-// Levels count in steps of an eighth of an octave of amplitude, 0.75 dB. The constants are the Rust's, fitted to the old
-// instrument; where a curve has a jump or a corner, it stays.
+// Levels count in steps of an eighth of an octave of amplitude, 0.75 dB. The constants are the Rust's, fitted to the
+// old instrument; where a curve has a jump or a corner, it stays.
 ghost use mathlib.Core.Path.{_≡_};
 ghost use Prim.Native.Nat.{_≤_, max};
 ghost use Rattle.dx_units_inner.specs.Tables.{lutCoarse, lutCubeRoot};

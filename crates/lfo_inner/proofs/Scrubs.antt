@@ -8,24 +8,11 @@ use Rattle.numbers.specs.F32.{_⊖_, _⊗_}
 use Rattle.random.specs.declared.Drawn.{Drawn}
 use Rattle.lfo_inner.specs.declared.Lfo.{Lfo}
 use Rattle.lfo_inner.specs.declared.Motion.{Motion}
-use Rattle.lfo_inner.specs.Lfo.{movedTo, drawnIf, delayScrubbed, firstOf, secondOf, wholeChanged, scrubbed}
+use Rattle.lfo_inner.specs.Lfo.{rebuilt, movedTo, drawnIf, delayScrubbed, firstOf, secondOf, wholeChanged, scrubbed}
 
 -- the LFO with another whole part, as a store to that field leaves it
 abbrev pub wholeStored : Lfo → ℤ → Lfo
-wholeStored lfo whole = record {
-  phase = lfo .phase;
-  frequency = lfo .frequency;
-  «delay_phase» = lfo .«delay_phase»;
-  «delay_increment» = lfo .«delay_increment»;
-  value = lfo .value;
-  «random_value» = lfo .«random_value»;
-  «one_hz» = lfo .«one_hz»;
-  «amp_mod_depth» = lfo .«amp_mod_depth»;
-  «pitch_mod_depth» = lfo .«pitch_mod_depth»;
-  waveform = lfo .waveform;
-  «reset_phase» = lfo .«reset_phase»;
-  «phase_integral» = whole;
-}
+wholeStored lfo whole = rebuilt lfo (lfo .phase) (lfo .«delay_phase») (lfo .value) (lfo .«random_value») whole
 
 -- the whole part n stands at three places, each read back from its bits
 pub scrubbed-from : (lfo : Lfo) (state : ℕ) (sample : Float) {n u v w k : ℤ} {z t : Float} {b : Bool} {d : Drawn} {l : Lfo}

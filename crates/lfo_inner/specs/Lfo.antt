@@ -60,14 +60,15 @@ adjusted lfo m = record {
   «phase_integral» = lfo .«phase_integral»;
 }
 
--- the LFO with another phase, last draw, delay and whole part of its last scrub
-unfoldable pub movedTo : Lfo → Float → Float → Float → ℤ → Lfo
-movedTo lfo phase last delay whole = record {
+-- the same LFO with another phase, delay, stored value, last draw and whole part of its last scrub: what every move is
+-- said by
+abbrev pub rebuilt : Lfo → Float → Float → Float → Float → ℤ → Lfo
+rebuilt lfo phase delay value last whole = record {
   phase = phase;
   frequency = lfo .frequency;
   «delay_phase» = delay;
   «delay_increment» = lfo .«delay_increment»;
-  value = lfo .value;
+  value = value;
   «random_value» = last;
   «one_hz» = lfo .«one_hz»;
   «amp_mod_depth» = lfo .«amp_mod_depth»;
@@ -77,22 +78,14 @@ movedTo lfo phase last delay whole = record {
   «phase_integral» = whole;
 }
 
+-- the LFO with another phase, last draw, delay and whole part of its last scrub
+unfoldable pub movedTo : Lfo → Float → Float → Float → ℤ → Lfo
+movedTo lfo phase last delay whole = rebuilt lfo phase delay (lfo .value) last whole
+
 -- the LFO with another stored value
 unfoldable pub valued : Lfo → Float → Lfo
-valued lfo value = record {
-  phase = lfo .phase;
-  frequency = lfo .frequency;
-  «delay_phase» = lfo .«delay_phase»;
-  «delay_increment» = lfo .«delay_increment»;
-  value = value;
-  «random_value» = lfo .«random_value»;
-  «one_hz» = lfo .«one_hz»;
-  «amp_mod_depth» = lfo .«amp_mod_depth»;
-  «pitch_mod_depth» = lfo .«pitch_mod_depth»;
-  waveform = lfo .waveform;
-  «reset_phase» = lfo .«reset_phase»;
-  «phase_integral» = lfo .«phase_integral»;
-}
+valued lfo value =
+    rebuilt lfo (lfo .phase) (lfo .«delay_phase») value (lfo .«random_value») (lfo .«phase_integral»)
 
 -- a reset starts the phase anew if the patch asked for it, and the delay always
 unfoldable pub restarted : Lfo → Lfo
