@@ -82,8 +82,9 @@ module _ (pairs : List Float) (pace : Pace) (c : Call) (a : ℕ) (block new : Li
       }
 
   -- two or three operators
-  pub played-fed : Callable c × Quartered (pace .samples) block × (c .input ≡ 3) → source ≡ feedback (pace .«feedback_scale»)
-      → a ≡ c .output * pace .samples → length new ≡ length (take (a + pace .samples - a) (drop a block))
+  pub played-fed : Callable c × Quartered (pace .samples) block × (c .input ≡ 3)
+      → source ≡ feedback (pace .«feedback_scale») → a ≡ c .output * pace .samples
+      → length new ≡ length (take (a + pace .samples - a) (drop a block))
       → Rendered pairs source (c .add) s (take (a + pace .samples - a) (drop a block)) e new
       → Played pairs pace c s block e (putMid a (a + pace .samples - a) block new)
   played-fed h eu ea f x =
