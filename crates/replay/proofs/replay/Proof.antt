@@ -15,6 +15,9 @@ Inv-loop script₀ registers₀ answers₀ run₀ turns₀ script registers answ
 abbrev μ-loop : tie.MeasureT-loop
 μ-loop script₀ registers₀ answers₀ run₀ turns₀ script registers answers run turns = turns
 
+closed-requires : tie.Need-closed-requires Inv-loop μ-loop
+closed-requires c κs = search needs
+
 loop-holds : tie.Need-loop-holds Inv-loop μ-loop
 loop-holds c = omega arith
 
@@ -60,6 +63,7 @@ replay-spec =
     (tie.spec
     Inv-loop
     μ-loop
+    closed-requires
     loop-holds
     turn-requires
     sub-turns
