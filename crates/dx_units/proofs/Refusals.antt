@@ -8,11 +8,12 @@ use lib.Ieee.Fits.{and-l, and-r}
 use lib.Ieee.{Float}
 use Rattle.numbers.specs.F32.{decimal}
 use Rattle.dx_units.specs.declared.Converted.the-variants.{Value, Refused}
+use Rattle.patch.specs.declared.KeyboardScaling.{KeyboardScaling}
 use Rattle.patch.specs.Packed.{within, scalingFits}
 use Rattle.patch.specs.Form.{scalingNumber}
 use Rattle.patch.specs.Layout.{scalingField, scalingNames}
 use Rattle.patch_limits.specs.Ranges.{between}
-use Rattle.dx_units.specs.Answers.{fieldNumber, parameterNumber, firstOf, convertedFor, scalingOf, frequencyFits}
+use Rattle.dx_units.specs.Answers.{fieldNumber, parameterNumber, firstOf, convertedFor, frequencyFits}
 
 -- a field alone: 6 above its largest number
 pub field-fits : (n largest : ℕ) {r x : Float} → n ≤ largest → r ≡ x
@@ -37,11 +38,12 @@ module _ (fits : Bool) (x : Float) (largest : ℕ) (v : Float) (e : fits ≡ tru
   parameter-outside et h = simp (e, sym et ∙ h)
 
 -- the five numbers of keyboard scaling that fit, one by one
-pub five-fit : (leftDepth rightDepth leftCurve rightCurve breakPoint : ℕ)
-    → scalingFits (scalingOf leftDepth rightDepth leftCurve rightCurve breakPoint)
-    ≡ leb breakPoint 99 && leb leftDepth 99 && leb rightDepth 99 && leb leftCurve 3 && leb rightCurve 3
+pub five-fit : (k : KeyboardScaling)
+    → scalingFits k
+    ≡ leb (k .«break_point») 99 && leb (k .«left_depth») 99 && leb (k .«right_depth») 99 && leb (k .«left_curve») 3
+    && leb (k .«right_curve») 3
 unfolding scalingFits within scalingNames scalingField scalingNumber
-five-fit leftDepth rightDepth leftCurve rightCurve breakPoint = simp (and-assoc, and-true)
+five-fit k = simp (and-assoc, and-true)
 
 -- the fields of a frequency that fit are in bounds of the table
 pub fits-coarse : (mode coarse fine detune : ℕ) → frequencyFits mode coarse fine detune ≡ true → coarse ≤ 31

@@ -38,16 +38,6 @@ abbrev pub firstOf : ℕ → ℕ → ℕ
 firstOf zero other = other
 firstOf (suc n) other = suc n
 
--- the five numbers of keyboard scaling, for the limits that a patch's have: `five-fit` tells them one by one
-abbrev pub scalingOf : ℕ → ℕ → ℕ → ℕ → ℕ → KeyboardScaling
-scalingOf leftDepth rightDepth leftCurve rightCurve breakPoint = record {
-  «left_depth» = leftDepth;
-  «right_depth» = rightDepth;
-  «left_curve» = leftCurve;
-  «right_curve» = rightCurve;
-  «break_point» = breakPoint;
-}
-
 -- the largest numbers of a frequency
 unfoldable pub frequencyFits : ℕ → ℕ → ℕ → ℕ → Bool
 frequencyFits mode coarse fine detune = leb mode 1 && leb coarse 31 && leb fine 99 && leb detune 14
@@ -103,11 +93,11 @@ ampModSensitivityAnswer sensitivity = convertedFor (fieldNumber (leb sensitivity
 unfoldable pub pitchModSensitivityAnswer : ℕ → Converted
 pitchModSensitivityAnswer sensitivity = convertedFor (fieldNumber (leb sensitivity 7)) (pitchModSensitivity sensitivity)
 
-unfoldable pub keyboardScalingAnswer : Float → ℕ → ℕ → ℕ → ℕ → ℕ → Converted
-keyboardScalingAnswer note leftDepth rightDepth leftCurve rightCurve breakPoint =
-    let fits = scalingFits (scalingOf leftDepth rightDepth leftCurve rightCurve breakPoint) in
-    convertedFor (firstOf (fieldNumber fits) (parameterNumber note 127))
-    (keyboardScaling note leftDepth rightDepth leftCurve rightCurve breakPoint)
+-- the limits of its five numbers are those of a patch's: `five-fit` tells them one by one
+unfoldable pub keyboardScalingAnswer : Float → KeyboardScaling → Converted
+keyboardScalingAnswer note k =
+    convertedFor (firstOf (fieldNumber (scalingFits k)) (parameterNumber note 127))
+    (keyboardScaling note (k .«left_depth») (k .«right_depth») (k .«left_curve») (k .«right_curve») (k .«break_point»))
 
 unfoldable pub frequencyRatioAnswer : ℕ → ℕ → ℕ → ℕ → Tuning
 frequencyRatioAnswer mode coarse fine detune =

@@ -146,35 +146,20 @@ pub fn pitch_mod_sensitivity(sensitivity: u8) -> Converted
 
 // The level's change at a note, by the side of the break point on which it lies. All five numbers are checked, used or
 // not.
-pub fn keyboard_scaling(
-    note: f32,
-    left_depth: u8,
-    right_depth: u8,
-    left_curve: u8,
-    right_curve: u8,
-    break_point: u8,
-) -> Converted
-    ensures { λ r. ⌜ r ≡ keyboardScalingAnswer note «left_depth» «right_depth» «left_curve» «right_curve»
-        «break_point» ⌝ }
+pub fn keyboard_scaling(note: f32, scaling: KeyboardScaling) -> Converted
+    ensures { λ r. ⌜ r ≡ keyboardScalingAnswer note scaling ⌝ }
 {
-    let scaling = KeyboardScaling {
-        left_depth,
-        right_depth,
-        left_curve,
-        right_curve,
-        break_point,
-    };
     if !patch_limits::scaling_fits(scaling) {
         return Converted::Refused(6);
     }
     if patch_limits::between(0.0, 127.0, note) {
         return Converted::Value(dx_units_inner::keyboard_scaling(
             note,
-            left_depth,
-            right_depth,
-            left_curve,
-            right_curve,
-            break_point,
+            scaling.left_depth,
+            scaling.right_depth,
+            scaling.left_curve,
+            scaling.right_curve,
+            scaling.break_point,
         ));
     }
     Converted::Refused(7)

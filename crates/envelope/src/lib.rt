@@ -46,11 +46,11 @@ pub fn render_at_sample(envelope: Envelope, reshape: bool, t: f32, gate_duration
 // One step of an envelope, and its value there.
 pub fn render(
     envelope: Envelope,
-    reshape: bool,
     gate: bool,
     rate: f32,
     ad_scale: f32,
     release_scale: f32,
+    reshape: bool,
 ) -> Rendered
     ensures { λ r. ⌜ r ≡ renderAnswer reshape gate rate «ad_scale» «release_scale» envelope ⌝ }
 {

@@ -74,7 +74,7 @@ fn rendered(s: &[u8], envelope: Envelope) -> Rendered {
     let rate = judge_wire::float(s, 3);
     let ad_scale = judge_wire::float(s, 7);
     let release_scale = judge_wire::float(s, 11);
-    envelope::render(envelope, reshape, gate, rate, ad_scale, release_scale)
+    envelope::render(envelope, gate, rate, ad_scale, release_scale, reshape)
 }
 
 fn valued(entry: u8, s: &[u8], envelope: Envelope) -> Read {

@@ -5,6 +5,7 @@ use dx_units::Delay;
 use dx_units::Level;
 use dx_units::Ratio;
 use dx_units::Tuning;
+use patch::KeyboardScaling;
 
 // The length of a call of the entry; 0 for no entry of this group.
 pub fn length(entry: u8) -> usize {
@@ -77,14 +78,14 @@ fn keyboard_scaling(s: &[u8]) -> Converted {
     let left_curve = judge_wire::byte(s, 7);
     let right_curve = judge_wire::byte(s, 8);
     let break_point = judge_wire::byte(s, 9);
-    dx_units::keyboard_scaling(
-        judge_wire::float(s, 1),
+    let scaling = KeyboardScaling {
         left_depth,
         right_depth,
         left_curve,
         right_curve,
         break_point,
-    )
+    };
+    dx_units::keyboard_scaling(judge_wire::float(s, 1), scaling)
 }
 
 fn frequency_ratio(s: &[u8]) -> Tuning {

@@ -5,15 +5,13 @@ use mathlib.Core.Path.{_≡_, sym, _∙_}
 use lib.Ieee.{ofBits}
 use Rattle.numbers.specs.F32.{decimal}
 use Rattle.patch.specs.Packed.{scalingFits}
-use Rattle.dx_units.specs.Answers.{scalingOf, keyboardScalingAnswer}
+use Rattle.dx_units.specs.Answers.{keyboardScalingAnswer}
 use Rattle.dx_units.proofs.Refusals.{field-first, parameter-inside, parameter-outside}
 use borrow.Author.Needs.{needs}
 use Rattle.dx_units.proofs.keyboard_scaling.Statement.{statement}
 use Rattle.dx_units.proofs.keyboard_scaling.Tie as tie
 
-fit : (c : tie.Else1)
-    → let a = c .before .before .args in
-    scalingFits (scalingOf (a .left-depth) (a .right-depth) (a .left-curve) (a .right-curve) (a .break-point)) ≡ true
+fit : (c : tie.Else1) → scalingFits (c .before .before .args .scaling) ≡ true
 fit c = sym (c .before .scaling-fits .ensures) ∙ not-false _ (c .if1 .left)
 
 scaling-fits-requires : tie.Need-scaling-fits-requires

@@ -7,10 +7,10 @@ use Rattle.identify.proofs.files.print_messages.Statement.{statement}
 use Rattle.identify.proofs.files.print_messages.Tie as tie
 
 abbrev Inv-loop : tie.InvT-loop
-Inv-loop fd name buffer₀ w₀ turns₀ buffer w turns = length buffer ≡ length buffer₀
+Inv-loop fd name buffer₀ walk₀ turns₀ buffer walk turns = length buffer ≡ length buffer₀
 
 abbrev μ-loop : tie.MeasureT-loop
-μ-loop fd name buffer₀ w₀ turns₀ buffer w turns = turns
+μ-loop fd name buffer₀ walk₀ turns₀ buffer walk turns = turns
 
 loop-holds : tie.Need-loop-holds Inv-loop μ-loop
 loop-holds c = omega arith
