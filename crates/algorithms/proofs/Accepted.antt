@@ -10,15 +10,15 @@ use native.Mathlib.Numerals.{add-one}
 use native.Mathlib.Omega.{arith}
 use mathlib.Core.List.{List, [], _∷_}
 use lib.Dec.{eqb}
-use lib.ListN.{length, getD, set, take, length-set, length-take}
-use lib.Seq.{length-take-le, getD-set-same, getD-set-other}
+use lib.ListN.{length, getD, set, take, drop, length-set, length-take}
+use lib.Seq.{length-take-le, drop-drop, getD-set-same, getD-set-other}
 use borrow.Author.Tests.{eqb-true, eqb-false}
 use Rattle.algorithms.specs.Opcode.{source, adding}
 use Rattle.algorithms.specs.Chain.{Modulation, originFrom, modulation, known, renders, callLength, rendered}
 use Rattle.algorithms.specs.Chain.Modulation.{unmodulated, external, feedback, originless}
 use Rattle.algorithms.specs.Plan.{callOf, noCall, noPlan, reading, ready, unready, extended, refusal, planFrom}
 use Rattle.algorithms.specs.Plan.{counted, planned}
-use Rattle.algorithms.specs.Accepted.{covered, Covering, In, Safe, Sound}
+use Rattle.algorithms.specs.Accepted.{covered, Covering, In, Safe, Sound, Made}
 use Rattle.algorithms.specs.declared.Call.{Call}
 use Rattle.algorithms.specs.declared.Plan.{Plan}
 use Rattle.algorithms.specs.declared.Planned.{Planned}
@@ -121,25 +121,27 @@ call-sound operators first o os c e h l =
 abbrev pub SafePlan : Plan → Type 0
 SafePlan p = (k : ℕ) → k < p .count → Safe (p .calls) k
 
--- a plan so far, whose calls end at operator `first`
-pub record Good (operators first : ℕ) (p : Plan) : Type 0 where
+-- a plan so far of the row t, whose calls end at operator `first`
+pub record Good (operators first : ℕ) (t : List ℕ) (p : Plan) : Type 0 where
   pub slots : length (p .calls) ≡ 6
   pub fewer : p .count ≤ first
   pub covering : Covering (p .calls) (p .count) first
   pub safe : SafePlan p
   pub sound : (k : ℕ) → k < p .count → Sound operators (getD (p .calls) k noCall)
+  pub made : (k : ℕ) → k < p .count → Made operators t (getD (p .calls) k noCall)
 
 none-below : (P : ℕ → Type 0) (k : ℕ) → k < 0 → P k
 none-below P k h = absurd (omega arith)
 
-good-start : (operators : ℕ) → Good operators 0 noPlan
+good-start : (operators : ℕ) (t : List ℕ) → Good operators 0 t noPlan
 unfolding covered
-good-start operators = record {
+good-start operators t = record {
   slots = refl;
   fewer = omega arith;
   covering = record { starts = none-below _; some = none-below _; whole = refl };
   safe = none-below _;
   sound = none-below _;
+  made = none-below _;
 }
 
 -- a call that passes reads and adds to ready buffers
@@ -196,12 +198,12 @@ module _ (cs : List Call) (m : ℕ) (c : Call) where
         }
 
 -- one call more
-good-more : (operators first n : ℕ) (p : Plan) (c : Call) → operators ≤ 6 → first < operators → c .first ≡ first
-    → c .n ≡ n → 1 ≤ n → Sound operators c
-    → unready (ready (p .calls) (p .count)) c ≡ false → Good operators first p
-    → Good operators (first + n) (extended p c)
+good-more : (operators first n : ℕ) (t : List ℕ) (p : Plan) (c : Call) → operators ≤ 6 → first < operators → c .first ≡ first
+    → c .n ≡ n → 1 ≤ n → Sound operators c → Made operators t c
+    → unready (ready (p .calls) (p .count)) c ≡ false → Good operators first t p
+    → Good operators (first + n) t (extended p c)
 unfolding extended covered
-good-more operators first n p c h i ef en some sound e g =
+good-more operators first n t p c h i ef en some sound made e g =
     let cs = p .calls in
     let m = p .count in
     let ds = set cs m c in
@@ -223,11 +225,14 @@ good-more operators first n p c h i ef en some sound e g =
       sound =
           each-more (λ k. Sound operators (getD ds k noCall)) m (λ k z. rw (kept cs m c k z) (g .sound k z))
           (rw x sound);
+      made =
+          each-more (λ k. Made operators t (getD ds k noCall)) m (λ k z. rw (kept cs m c k z) (g .made k z))
+          (rw x made);
     }
 
 -- what is good at a place is good at the same place
-good-at : (operators i j : ℕ) (p : Plan) → i ≡ j → Good operators i p → Good operators j p
-good-at operators i j p e g = rw (sym e) g
+good-at : (operators i j : ℕ) (t : List ℕ) (p : Plan) → i ≡ j → Good operators i t p → Good operators j t p
+good-at operators i j t p e g = rw (sym e) g
 
 positive : (n : ℕ) → eqb n 0 ≡ false → 1 ≤ n
 positive n e = let z = eqb-false n 0 e in omega arith
@@ -236,39 +241,51 @@ positive n e = let z = eqb-false n 0 e in omega arith
 abbrev end : ℕ → Planned → ℕ
 end last q = cond (eqb (q .number) 0) last 0
 
--- THE THEOREM along the row
-walk-good : (operators last : ℕ) → operators ≤ 6 → last ≤ operators → (os : List ℕ) (inside first : ℕ) (p : Plan)
-    → first + length os ≡ last → inside ≤ length os
-    → Good operators (first + inside) p
-    → Good operators (end last (planFrom operators inside first p os)) (planFrom operators inside first p os .plan)
+-- the row behind an operator
+behind : (t : List ℕ) (first o : ℕ) (os : List ℕ) → (o ∷ os) ≡ drop first t → os ≡ drop (suc first) t
+behind t first o os e =
+    ap (λ (l : List ℕ). drop 1 l) e ∙ drop-drop 1 first t ∙ ap (λ (k : ℕ). drop k t) (add-one first)
+
+-- THE THEOREM along the row t, of which os is what is still to come
+walk-good : (operators last : ℕ) → operators ≤ 6 → last ≤ operators → (t os : List ℕ) (inside first : ℕ) (p : Plan)
+    → os ≡ drop first t → first + length os ≡ last → inside ≤ length os
+    → Good operators (first + inside) t p
+    → Good operators (end last (planFrom operators inside first p os)) t (planFrom operators inside first p os .plan)
 unfolding planFrom callOf
-walk-good operators last h t [] inside first p l i g = good-at operators (first + inside) last p (omega arith) g
-walk-good operators last h t (o ∷ os) (suc inside) first p l i g =
-    walk-good operators last h t os inside (suc first) p (omega arith) (omega arith)
-    (good-at operators (first + suc inside) (suc first + inside) p (omega arith) g)
-walk-good operators last h t (o ∷ os) zero first p l i g =
+walk-good operators last h m t [] inside first p d l i g = good-at operators (first + inside) last t p (omega arith) g
+walk-good operators last h m t (o ∷ os) (suc inside) first p d l i g =
+    walk-good operators last h m t os inside (suc first) p (behind t first o os d) (omega arith) (omega arith)
+    (good-at operators (first + suc inside) (suc first + inside) t p (omega arith) g)
+walk-good operators last h m t (o ∷ os) zero first p d l i g =
     let n = rendered operators (o ∷ os) in
     let c = callOf first n (o ∷ os) in
-    at-call (λ q. Good operators (end last q) (q .plan)) operators first p o os (good-start operators)
-    (good-start operators)
-    (λ x y. walk-good operators last h t os (n - 1) (suc first) (extended p c) (omega arith) (omega (arith, rendered-within operators o os))
-    (good-at operators (first + n) (suc first + (n - 1)) (extended p c) (omega (arith, positive n x))
-    (good-more operators first n p c h (omega arith) refl refl (positive n x) (call-sound operators first o os c refl (eqb-false n 0 x) (omega arith)) y
-    (good-at operators (first + 0) first p (add-zero first) g))))
+    let made : Made operators t c = ap (λ (r : List ℕ). callOf first (rendered operators r) r) d in
+    at-call (λ q. Good operators (end last q) t (q .plan)) operators first p o os (good-start operators t)
+    (good-start operators t)
+    (λ x y. walk-good operators last h m t os (n - 1) (suc first) (extended p c) (behind t first o os d) (omega arith)
+    (omega (arith, rendered-within operators o os))
+    (good-at operators (first + n) (suc first + (n - 1)) t (extended p c) (omega (arith, positive n x))
+    (good-more operators first n t p c h (omega arith) refl refl (positive n x)
+    (call-sound operators first o os c refl (eqb-false n 0 x) (omega arith)) made y
+    (good-at operators (first + 0) first t p (add-zero first) g))))
 
 -- ---- the plan of a row, accepted or not, and however long the row is
 
 module _ (operators : ℕ) (row : List ℕ) where
-  planned-good : Good operators (end (length (take operators row)) (planned operators row)) (planned operators row .plan)
+  abbrev t : List ℕ
+  t = take operators row
+
+  planned-good : Good operators (end (length t) (planned operators row)) t (planned operators row .plan)
   unfolding planned
   planned-good = pick (counted operators) refl
     where
       pick : (b : Bool) → counted operators ≡ b
-          → Good operators (end (length (take operators row)) (cond b (planFrom operators 0 0 noPlan (take operators row)) (refusal 2 0))) (cond b (planFrom operators 0 0 noPlan (take operators row)) (refusal 2 0) .plan)
+          → Good operators (end (length t) (cond b (planFrom operators 0 0 noPlan t) (refusal 2 0))) t
+          (cond b (planFrom operators 0 0 noPlan t) (refusal 2 0) .plan)
       pick true x =
           walk-good operators _ (counted-few operators x) (omega (arith, length-take operators row))
-          (take operators row) 0 0 noPlan (omega arith) (omega arith) (good-start operators)
-      pick false x = good-start operators
+          t t 0 0 noPlan refl (omega arith) (omega arith) (good-start operators t)
+      pick false x = good-start operators t
 
   -- no call reads or adds to a scratch buffer that no earlier call has set
   pub planned-safe : SafePlan (planned operators row .plan)
@@ -278,6 +295,11 @@ module _ (operators : ℕ) (row : List ℕ) where
   pub planned-sound : (k : ℕ) → k < planned operators row .plan .count
       → Sound operators (getD (planned operators row .plan .calls) k noCall)
   planned-sound = planned-good .sound
+
+  -- and takes the operators that are rendered together from its first one on
+  pub planned-made : (k : ℕ) → k < planned operators row .plan .count
+      → Made operators t (getD (planned operators row .plan .calls) k noCall)
+  planned-made = planned-good .made
 
   -- and an operator or more
   pub planned-some : (k : ℕ) → k < planned operators row .plan .count

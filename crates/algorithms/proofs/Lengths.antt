@@ -88,11 +88,12 @@ pub cond-most : (b : Bool) (x y n : ℕ) → x ≤ n → y ≤ n → cond b x y 
 cond-most true x y n h k = h
 cond-most false x y n h k = k
 
-grown-some : (o : ℕ) (os : List ℕ) → 1 ≤ grown (o ∷ os)
+-- a chain is an operator or more, and stays in the row
+pub grown-some : (o : ℕ) (os : List ℕ) → 1 ≤ grown (o ∷ os)
 unfolding grown
 grown-some o os = cond-least (ends o os) 1 (suc (grown os)) 1 (omega arith) (omega arith)
 
-grown-within : (os : List ℕ) → grown os ≤ length os
+pub grown-within : (os : List ℕ) → grown os ≤ length os
 unfolding grown
 grown-within [] = omega arith
 grown-within (o ∷ os) =
@@ -120,27 +121,35 @@ module _ (operators first : ℕ) (row : List ℕ) (w : Within operators first ro
       let l = rw (row-cons operators first row w) at (row-length operators first row w) in
       (omega (arith, chained-some (getD row first 0) (rowFrom operators (suc first) row)), omega (arith, chained-within (getD row first 0) (rowFrom operators (suc first) row), w .one))
 
-  -- the chain reaches the row's end
-  pub whole-chain : n ≡ grown (rowFrom operators first row) → operators ≤ first + n
-      → n ≡ chained (rowFrom operators first row)
-  unfolding chained reused
-  whole-chain e h =
-      let l : length (rowFrom operators first row) ≤ grown (rowFrom operators first row) = omega (arith, row-length operators first row w) in
-      e ∙ rw (le-ltb (grown (rowFrom operators first row)) (length (rowFrom operators first row)) l)
+  module _ (e : n ≡ grown (rowFrom operators first row)) where
+    abbrev os : List ℕ
+    os = rowFrom operators first row
 
-  -- or it stops short of it, and the next source decides
-  module _ (e : n ≡ grown (rowFrom operators first row)) (h : first + n < operators) (s d : ℕ) (es : s ≡ source (getD row (first + n) 0)) (ed : d ≡ destination (getD row first 0)) where
-    short : chained (rowFrom operators first row) ≡ cond (eqb s d) 1 n
-    unfolding chained reused
-    short =
-        let l : grown (rowFrom operators first row) < length (rowFrom operators first row) = omega (arith, row-length operators first row w, w .one) in
-        rw (lt-ltb (grown (rowFrom operators first row)) (length (rowFrom operators first row)) l, ← e, row-get operators first row w n h, row-get operators first row w 0 (omega (arith, w .one)), add-zero, ← es, ← ed)
+    -- the chain reaches the row's end
+    pub reused-never : operators ≤ first + n → false ≡ reused os
+    unfolding reused
+    reused-never h =
+        let l : length os ≤ grown os = omega (arith, row-length operators first row w) in
+        rw (le-ltb (grown os) (length os) l)
 
-    pub cut-chain : s ≡ d → 1 ≡ chained (rowFrom operators first row)
-    cut-chain z = rw (short, eq-eqb s d z)
+    -- or it stops short of it, and the next source decides
+    pub reused-at : first + n < operators → (s d : ℕ) → s ≡ source (getD row (first + n) 0)
+        → d ≡ destination (getD row first 0) → eqb s d ≡ reused os
+    unfolding reused
+    reused-at h s d es ed =
+        let l : grown os < length os = omega (arith, row-length operators first row w, w .one) in
+        let here = row-get operators first row w 0 (omega (arith, w .one)) in
+        rw (lt-ltb (grown os) (length os) l, ← e, row-get operators first row w n h, here, add-zero, ← es, ← ed)
 
-    pub kept-chain : (s ≡ d → ⊥) → n ≡ chained (rowFrom operators first row)
-    kept-chain z = rw (short, ne-eqb s d z)
+-- the reuse rule decides
+module _ (os : List ℕ) (b : Bool) (e : b ≡ reused os) where
+  pub cut-chain : b ≡ true → 1 ≡ chained os
+  unfolding chained
+  cut-chain h = rw (← e, h)
+
+  pub kept-chain : (n : ℕ) → n ≡ grown os → b ≡ false → n ≡ chained os
+  unfolding chained
+  kept-chain n en h = rw (← e, h) en
 
 -- ---- a call's length
 

@@ -7,3 +7,4 @@ pub mod Tables
 pub mod Same
 pub mod Together
 pub mod Accepted
+pub mod Reasons

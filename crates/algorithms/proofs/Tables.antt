@@ -7,10 +7,11 @@ use native.Mathlib.Nat.{mul-le-mul-right, div-mul-le-self, suc-mul, le-trans}
 use native.Mathlib.Omega.{arith}
 use mathlib.Core.List.{List, [], _∷_}
 use lib.Dec.{eqb, ltb, leb}
-use lib.ListN.{length}
+use lib.ListN.{length, getD}
 use borrow.Author.Tests.{ltb-true, lt-ltb, le-ltb, lt-leb, le-leb, eq-eqb, ne-eqb}
+use Rattle.algorithms.specs.Opcode.{modulating}
 use Rattle.algorithms.specs.Plan.{counted, refusal, planned}
-use Rattle.algorithms.specs.Table.{six, tabled, rowOf, withRow, compiled}
+use Rattle.algorithms.specs.Table.{six, tabled, rowOf, withRow, compiled, modulatorAnswer}
 use Rattle.algorithms.specs.declared.Compiled.{Compiled}
 use Rattle.algorithms.specs.declared.Planned.{Planned}
 
@@ -52,6 +53,24 @@ module _ (operators : ℕ) (table : List ℕ) (row : ℕ) (k : counted operators
       pub row-test : length table / operators ≤ 32 → ltb row (length table / operators) ≡ tabled operators table row
       unfolding tabled
       row-test l = rw (k, lt-ltb 0 (length table) (omega arith), eq-eqb (length table % operators) 0 h, le-leb (length table / operators) 32 l)
+
+-- ---- an operator of a row
+
+module _ (operators : ℕ) (table : List ℕ) (row operator : ℕ) where
+  pub no-such-row : tabled operators table row ≡ false → record { number = 2; modulates = false } ≡ modulatorAnswer operators table row operator
+  unfolding modulatorAnswer
+  no-such-row h = rw h
+
+  pub no-such-operator : tabled operators table row ≡ true → operators ≤ operator
+      → record { number = 2; modulates = false } ≡ modulatorAnswer operators table row operator
+  unfolding modulatorAnswer
+  no-such-operator h l = rw (h, le-ltb operator operators l)
+
+  pub row-operator : tabled operators table row ≡ true → operator < operators → {bytes : List ℕ} {byte : ℕ} {b : Bool}
+      → bytes ≡ rowOf operators table row → byte ≡ getD bytes operator 0 → b ≡ modulating byte
+      → record { number = 0; modulates = b } ≡ modulatorAnswer operators table row operator
+  unfolding modulatorAnswer
+  row-operator h l eb eo e = rw (h, lt-ltb operator operators l, e, eo, eb)
 
 -- ---- the row beside its plan
 

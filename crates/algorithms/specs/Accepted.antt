@@ -5,8 +5,9 @@ use mathlib.Core.Path.{_≡_}
 use mathlib.Core.Bool.{true}
 use mathlib.Core.Logic.{_⊎_}
 use mathlib.Core.List.{List}
-use lib.ListN.{getD}
-use Rattle.algorithms.specs.Plan.{noCall, reading, ready}
+use lib.ListN.{getD, drop}
+use Rattle.algorithms.specs.Chain.{rendered}
+use Rattle.algorithms.specs.Plan.{noCall, callOf, reading, ready}
 use Rattle.algorithms.specs.declared.Call.{Call}
 
 -- where the first k calls end
@@ -44,3 +45,7 @@ pub record Sound (operators : ℕ) (c : Call) : Type 0 where
   pub output : c .output < 4
   pub within : c .first + c .n ≤ operators
   pub chain : (c .n ≡ 1) ⊎ Several operators c
+
+-- a call takes the operators that are rendered together from its first one on; `os` is the whole row
+abbrev pub Made : ℕ → List ℕ → Call → Type 0
+Made operators os c = c ≡ callOf (c .first) (rendered operators (drop (c .first) os)) (drop (c .first) os)

@@ -10,10 +10,10 @@ ghost use mathlib.Core.List.{[], _∷_};
 ghost use Prim.Native.Nat.{_+_, _≤_, _<_};
 ghost use lib.ListN.{length, getD, take};
 ghost use Rattle.algorithms.specs.Opcode.{destination, adding, source, flagged, modulating};
-ghost use Rattle.algorithms.specs.Chain.{rowFrom, Within, unmet, grown, chained, callLength, rendered};
+ghost use Rattle.algorithms.specs.Chain.{rowFrom, Within, unmet, grown, reused, chained, callLength, rendered};
 ghost use Rattle.algorithms.specs.Plan.{noCall, noPlan, callOf, reading, unready, planFrom, counted, planned};
 ghost use Rattle.algorithms.specs.Plan.{refusal, sameCall, samePlan, isPlanOf, firstCalls};
-ghost use Rattle.algorithms.specs.Table.{six, tabled, rowOf, withRow, compiled};
+ghost use Rattle.algorithms.specs.Table.{six, tabled, rowOf, withRow, compiled, modulatorAnswer};
 
 // One call of a plan: n operators from `first` on, their input and output, and whether they add to the output or set
 // it. The input is the source: 0 none, 1 and 2 a buffer, 3 feedback. A feedback call's origin is its last operator.
@@ -46,22 +46,28 @@ pub struct Compiled {
     pub plan: Plan,
 }
 
+// Whether an operator of a row modulates others; false where there is no such operator.
+pub struct Asked {
+    pub number: u8,
+    pub modulates: bool,
+}
+
 // The buffer that an operator writes to.
-fn destination_of(opcode: u8) -> u8
+pub fn destination_of(opcode: u8) -> u8
     ensures { λ r. ⌜ r ≡ destination opcode ⌝ }
 {
     opcode % 4
 }
 
 // Whether it adds there.
-fn is_adding(opcode: u8) -> bool
+pub fn is_adding(opcode: u8) -> bool
     ensures { λ r. ⌜ r ≡ adding opcode ⌝ }
 {
     opcode / 4 % 2 == 1
 }
 
 // What modulates it.
-fn source_of(opcode: u8) -> u8
+pub fn source_of(opcode: u8) -> u8
     ensures { λ r. ⌜ r ≡ source opcode ⌝ }
 {
     opcode / 16 % 4
@@ -75,7 +81,7 @@ fn is_flagged(opcode: u8) -> bool
 }
 
 // Whether an operator modulates others, and is not heard itself.
-pub fn is_modulator(opcode: u8) -> bool
+pub fn is_modulating(opcode: u8) -> bool
     ensures { λ r. ⌜ r ≡ modulating opcode ⌝ }
 {
     destination_of(opcode) != 0
@@ -93,7 +99,7 @@ fn grows(from: u8, to: u8) -> bool
 }
 
 // How many operators the chain at `first` grows to.
-fn grow(operators: usize, row: &[u8; 6], first: usize) -> usize
+pub fn grow(operators: usize, row: &[u8; 6], first: usize) -> usize
     requires { ⌜ Within operators first (now row) ⌝ }
     ensures { λ r. ⌜ r ≡ grown (rowFrom operators first (now (row .entry))) ⌝ }
 {
@@ -108,26 +114,35 @@ fn grow(operators: usize, row: &[u8; 6], first: usize) -> usize
     last + 1 - first
 }
 
-// The same after the reuse rule. A chain rendered as one keeps what passes between its operators to itself; where the
-// operator behind the chain is modulated by the first one's buffer too, it must be left there, so the chain shrinks to
-// its first operator. Algorithms 19 to 25, and 6 of those of four operators, have one modulator for several.
-fn chain(operators: usize, row: &[u8; 6], first: usize) -> usize
+// Whether the reuse rule cuts the chain at `first`, which has grown to n operators. A chain rendered as one keeps what
+// passes between its operators to itself; where the operator behind the chain is modulated by the first one's buffer
+// too, it must be left there. Algorithms 19 to 25, and 6 of those of four operators, have one modulator for several.
+pub fn is_reused(operators: usize, row: &[u8; 6], first: usize, n: usize) -> bool
+    requires { ⌜ Within operators first (now row) × (n ≡ grown (rowFrom operators first (now row))) ⌝ }
+    ensures { λ r. ⌜ r ≡ reused (rowFrom operators first (now (row .entry))) ⌝ }
+{
+    let next = first + n;
+    if next < operators {
+        return source_of(row[next]) == destination_of(row[first]);
+    }
+    false
+}
+
+// How long the chain is after the reuse rule, by which it shrinks to its first operator.
+pub fn chain(operators: usize, row: &[u8; 6], first: usize) -> usize
     requires { ⌜ Within operators first (now row) ⌝ }
     ensures { λ r. ⌜ r ≡ chained (rowFrom operators first (now (row .entry))) ⌝ }
 {
     let n = grow(operators, row, first);
-    let next = first + n;
-    if next < operators {
-        if source_of(row[next]) == destination_of(row[first]) {
-            return 1;
-        }
+    if is_reused(operators, row, first, n) {
+        return 1;
     }
     n
 }
 
 // The same again after a look for a renderer. The only ones for several operators are those of algorithms 4 and 6,
 // whose feedback goes from the last of a chain to its first: no other chain is grown at all.
-fn call_length(operators: usize, row: &[u8; 6], first: usize) -> usize
+pub fn call_length(operators: usize, row: &[u8; 6], first: usize) -> usize
     requires { ⌜ Within operators first (now row) ⌝ }
     ensures { λ r. ⌜ r ≡ callLength operators (rowFrom operators first (now (row .entry))) ⌝ }
 {
@@ -151,7 +166,7 @@ fn call_length(operators: usize, row: &[u8; 6], first: usize) -> usize
 }
 
 // The length of the call that has a renderer, or 0: one operator has none if it wants feedback and is no origin itself.
-fn rendered_length(operators: usize, row: &[u8; 6], first: usize) -> usize
+pub fn rendered_length(operators: usize, row: &[u8; 6], first: usize) -> usize
     requires { ⌜ Within operators first (now row) ⌝ }
     ensures { λ r. ⌜ r ≡ rendered operators (rowFrom operators first (now (row .entry))) ⌝ }
 {
@@ -169,7 +184,7 @@ fn rendered_length(operators: usize, row: &[u8; 6], first: usize) -> usize
 }
 
 // The call of n operators from `first` on.
-fn call_of(operators: usize, row: &[u8; 6], first: usize, n: usize) -> Call
+pub fn call_of(operators: usize, row: &[u8; 6], first: usize, n: usize) -> Call
     requires { ⌜ Within operators first (now row) × (1 ≤ n) × (first + n ≤ operators) ⌝ }
     ensures { λ r. ⌜ r ≡ callOf first n (rowFrom operators first (now (row .entry))) ⌝ }
 {
@@ -184,7 +199,7 @@ fn call_of(operators: usize, row: &[u8; 6], first: usize, n: usize) -> Call
 }
 
 // Whether a call reads a buffer.
-fn is_reading(c: Call) -> bool
+pub fn is_reading(c: Call) -> bool
     ensures { λ r. ⌜ r ≡ reading c ⌝ }
 {
     if c.input == 1 {
@@ -194,7 +209,7 @@ fn is_reading(c: Call) -> bool
 }
 
 // Whether a buffer that is asked for lacks its flag.
-fn lacks(flags: &[bool; 4], asked: bool, q: u8) -> bool
+pub fn lacks(flags: &[bool; 4], asked: bool, q: u8) -> bool
     requires { ⌜ q < 4 ⌝ }
     ensures { λ r. ⌜ r ≡ asked && not (getD (now (flags .entry)) q false) ⌝ }
 {
@@ -206,7 +221,7 @@ fn lacks(flags: &[bool; 4], asked: bool, q: u8) -> bool
 }
 
 // Whether a call reads or adds to a buffer that is not ready.
-fn is_unready(flags: &[bool; 4], c: Call) -> bool
+pub fn is_unready(flags: &[bool; 4], c: Call) -> bool
     requires { ⌜ (c .input < 4) × (c .output < 4) ⌝ }
     ensures { λ r. ⌜ r ≡ unready (λ q. getD (now (flags .entry)) q false) c ⌝ }
 {
@@ -442,6 +457,30 @@ fn row_of(operators: usize, table: &[u8], row: usize) -> [u8; 6]
     let start = row * operators;
     let end = start + operators;
     six_bytes(&table[start..end])
+}
+
+// Whether an operator of a row of a lent table modulates others: 2 where there is no such row, as in `compile`, or no
+// such operator in it. A row that gets 3 or 4 is answered too, since opcodes alone decide.
+pub fn is_modulator(operators: usize, table: &[u8], row: usize, operator: usize) -> Asked
+    ensures { λ r. ⌜ r ≡ modulatorAnswer operators (now (table .entry)) row operator ⌝ }
+{
+    if !is_tabled(operators, table, row) {
+        return Asked {
+            number: 2,
+            modulates: false,
+        };
+    }
+    if operators <= operator {
+        return Asked {
+            number: 2,
+            modulates: false,
+        };
+    }
+    let bytes = row_of(operators, table, row);
+    Asked {
+        number: 0,
+        modulates: is_modulating(byte_at(&bytes, operator)),
+    }
 }
 
 fn with_row(bytes: [u8; 6], p: Planned) -> Compiled

@@ -6,7 +6,8 @@ use native.Mathlib.Nat.{suc-mul}
 use native.Mathlib.Omega.{arith}
 use lib.ListN.{length, take, drop, length-take, length-drop}
 use lib.Seq.{take-add, drop-drop}
-use Rattle.bank.specs.Bank.{dataOf, validateOf, slotOf, partOf, partsOf}
+use Rattle.bank.specs.Dump.{dataOf}
+use Rattle.bank.specs.Bank.{bankForm, validateOf, slotOf, partOf, partsOf}
 use Rattle.bank.proofs.Numbers.{sound-length, slot-sound}
 
 module _ (dump : List ℕ) (sound : validateOf dump ≡ 0) where
@@ -31,6 +32,6 @@ module _ (dump : List ℕ) (sound : validateOf dump ≡ 0) where
       ∙ sym (take-add (n * 128) 128 (drop 6 dump))
       ∙ ap (λ (k : ℕ). take k (drop 6 dump)) (sym (suc-mul n 128))
 
-  pub parts-are-data : partsOf dump 32 ≡ dataOf dump
-  unfolding dataOf
+  pub parts-are-data : partsOf dump 32 ≡ dataOf bankForm dump
+  unfolding dataOf bankForm
   parts-are-data = first-parts 32 (omega arith)

@@ -9,7 +9,7 @@ use borrow.Author.Tests.{eqb-true, ltb-true, eq-eqb, ne-eqb, lt-ltb, le-ltb}
 use lib.Dec.{eqb, ltb}
 use lib.ListN.{length, getD, take}
 use lib.Seq.{take-suc}
-use Rattle.bank.specs.Bank.{total, largestOf, summed, checksumOf}
+use Rattle.bank.specs.Dump.{total, largestOf, summed, checksumOf}
 
 total-snoc : (xs : List ℕ) (b : ℕ) → total (xs ++ (b ∷ [])) ≡ total xs + b
 unfolding total

@@ -6,13 +6,11 @@ use borrow.Author.Tests.{le-leb, lt-leb}
 use lib.Dec.{T, leb, leb→le}
 use lib.Ieee.Fits.{and-l, and-r}
 use lib.Ieee.{Float}
-use Rattle.numbers.specs.F32.{decimal}
 use Rattle.dx_units.specs.declared.Converted.the-variants.{Value, Refused}
 use Rattle.patch.specs.declared.KeyboardScaling.{KeyboardScaling}
 use Rattle.patch.specs.Packed.{within, scalingFits}
 use Rattle.patch.specs.Form.{scalingNumber}
-use Rattle.patch.specs.Layout.{scalingField, scalingNames}
-use Rattle.patch_limits.specs.Ranges.{between}
+use Rattle.patch.specs.Layout.{scalingField, operatorField, scalingNames}
 use Rattle.dx_units.specs.Answers.{fieldNumber, parameterNumber, firstOf, convertedFor, frequencyFits}
 
 -- a field alone: 6 above its largest number
@@ -28,13 +26,13 @@ pub field-first : (fits : Bool) (m : ℕ) (v : Float) → fits ≡ false
     → Refused 6 ≡ convertedFor (firstOf (fieldNumber fits) m) v
 field-first fits m v e = simp e
 
-module _ (fits : Bool) (x : Float) (largest : ℕ) (v : Float) (e : fits ≡ true) where
-  pub parameter-inside : {t : Bool} {r : Float} → t ≡ between (decimal 0 0) (decimal largest 0) x → t ≡ true → r ≡ v
-      → Value r ≡ convertedFor (firstOf (fieldNumber fits) (parameterNumber x largest)) v
+module _ (fits inside : Bool) (v : Float) (e : fits ≡ true) where
+  pub parameter-inside : {t : Bool} {r : Float} → t ≡ inside → t ≡ true → r ≡ v
+      → Value r ≡ convertedFor (firstOf (fieldNumber fits) (parameterNumber inside)) v
   parameter-inside et h er = simp (e, sym et ∙ h, er)
 
-  pub parameter-outside : {t : Bool} → t ≡ between (decimal 0 0) (decimal largest 0) x → t ≡ false
-      → Refused 7 ≡ convertedFor (firstOf (fieldNumber fits) (parameterNumber x largest)) v
+  pub parameter-outside : {t : Bool} → t ≡ inside → t ≡ false
+      → Refused 7 ≡ convertedFor (firstOf (fieldNumber fits) (parameterNumber inside)) v
   parameter-outside et h = simp (e, sym et ∙ h)
 
 -- the five numbers of keyboard scaling that fit, one by one
@@ -47,7 +45,7 @@ five-fit k = simp (and-assoc, and-true)
 
 -- the fields of a frequency that fit are in bounds of the table
 pub fits-coarse : (mode coarse fine detune : ℕ) → frequencyFits mode coarse fine detune ≡ true → coarse ≤ 31
-unfolding frequencyFits
+unfolding frequencyFits operatorField
 fits-coarse mode coarse fine detune e =
     let m = leb mode 1 in
     let k = leb coarse 31 in

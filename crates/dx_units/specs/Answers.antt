@@ -2,9 +2,7 @@
 -- believed.
 use mathlib.Core.Bool.{Bool, _&&_, cond}
 use Prim.Native.Nat.{ℕ, zero, suc}
-use lib.Dec.{leb}
 use lib.Ieee.{Float}
-use Rattle.numbers.specs.F32.{decimal}
 use Rattle.units.specs.Tables.{lutPitchRatioHigh, lutPitchRatioLow}
 use Rattle.dx_units.specs.declared.Level.{Level}
 use Rattle.dx_units.specs.declared.Level.the-variants as level
@@ -20,8 +18,11 @@ use Rattle.dx_units_inner.specs.Units.{operatorLevel, pitchEnvelopeLevel, opera
 use Rattle.dx_units_inner.specs.Units.{pitchEnvelopeIncrement, lfoFrequency, lfoDelay, normalizedVelocity, rateScaling}
 use Rattle.dx_units_inner.specs.Units.{ampModSensitivity, pitchModSensitivity, keyboardScaling, frequencyRatio}
 use Rattle.patch.specs.declared.KeyboardScaling.{KeyboardScaling}
-use Rattle.patch.specs.Packed.{scalingFits}
-use Rattle.patch_limits.specs.Ranges.{between}
+use Rattle.patch.specs.Layout.{envelopeField, operatorField, lfoField, lfoSensitivity}
+use Rattle.patch.specs.Layout.{Rate, Level as StageLevel, OutputLevel, RateScaling, AmplitudeSensitivity}
+use Rattle.patch.specs.Layout.{Mode, Coarse, Fine, Detune, LfoRate, LfoDelay, PitchSensitivity}
+use Rattle.patch.specs.Packed.{fieldFits, scalingFits}
+use Rattle.patch_limits.specs.Ranges.{noteFits, unitFits}
 
 -- ---- the number of an answer: 0 where nothing is refused
 
@@ -29,9 +30,9 @@ use Rattle.patch_limits.specs.Ranges.{between}
 abbrev pub fieldNumber : Bool → ℕ
 fieldNumber fits = cond fits 0 6
 
--- 7 for a parameter that is a NaN or outside 0 to its largest
-abbrev pub parameterNumber : Float → ℕ → ℕ
-parameterNumber x largest = cond (between (decimal 0 0) (decimal largest 0) x) 0 7
+-- 7 for a parameter that is a NaN or outside its range
+abbrev pub parameterNumber : Bool → ℕ
+parameterNumber fits = cond fits 0 7
 
 -- the first that is not 0, in ascending order
 abbrev pub firstOf : ℕ → ℕ → ℕ
@@ -40,7 +41,11 @@ firstOf (suc n) other = suc n
 
 -- the largest numbers of a frequency
 unfoldable pub frequencyFits : ℕ → ℕ → ℕ → ℕ → Bool
-frequencyFits mode coarse fine detune = leb mode 1 && leb coarse 31 && leb fine 99 && leb detune 14
+frequencyFits mode coarse fine detune =
+    fieldFits (operatorField Mode) mode
+    && fieldFits (operatorField Coarse) coarse
+    && fieldFits (operatorField Fine) fine
+    && fieldFits (operatorField Detune) detune
 
 -- ---- the case and the value that a number stands for: 0 for a value, any other for that refusal
 
@@ -60,43 +65,53 @@ abbrev pub tuningFor : ℕ → Ratio → Tuning
 tuningFor zero value = tuned.Value value
 tuningFor (suc n) value = tuned.Refused (suc n)
 
--- ---- the answers
+-- ---- the answers; a rate and a level have one limit in all four stages
 
 unfoldable pub operatorLevelAnswer : ℕ → Level
-operatorLevelAnswer n = levelFor (fieldNumber (leb n 99)) (operatorLevel n)
+operatorLevelAnswer n = levelFor (fieldNumber (fieldFits (operatorField OutputLevel) n)) (operatorLevel n)
 
 unfoldable pub pitchEnvelopeLevelAnswer : ℕ → Converted
-pitchEnvelopeLevelAnswer n = convertedFor (fieldNumber (leb n 99)) (pitchEnvelopeLevel n)
+pitchEnvelopeLevelAnswer n =
+    convertedFor (fieldNumber (fieldFits (envelopeField (StageLevel 0)) n)) (pitchEnvelopeLevel n)
 
 unfoldable pub operatorEnvelopeIncrementAnswer : ℕ → Converted
-operatorEnvelopeIncrementAnswer rate = convertedFor (fieldNumber (leb rate 99)) (operatorEnvelopeIncrement rate)
+operatorEnvelopeIncrementAnswer rate =
+    convertedFor (fieldNumber (fieldFits (envelopeField (Rate 0)) rate)) (operatorEnvelopeIncrement rate)
 
 unfoldable pub pitchEnvelopeIncrementAnswer : ℕ → Converted
-pitchEnvelopeIncrementAnswer rate = convertedFor (fieldNumber (leb rate 99)) (pitchEnvelopeIncrement rate)
+pitchEnvelopeIncrementAnswer rate =
+    convertedFor (fieldNumber (fieldFits (envelopeField (Rate 0)) rate)) (pitchEnvelopeIncrement rate)
 
 unfoldable pub lfoFrequencyAnswer : ℕ → Converted
-lfoFrequencyAnswer rate = convertedFor (fieldNumber (leb rate 99)) (lfoFrequency rate)
+lfoFrequencyAnswer rate =
+    convertedFor (fieldNumber (fieldFits (lfoField lfoSensitivity LfoRate) rate)) (lfoFrequency rate)
 
 unfoldable pub lfoDelayAnswer : ℕ → Delay
-lfoDelayAnswer n = delayFor (fieldNumber (leb n 99)) (lfoDelay n)
+lfoDelayAnswer n = delayFor (fieldNumber (fieldFits (lfoField lfoSensitivity LfoDelay) n)) (lfoDelay n)
 
 unfoldable pub normalizeVelocityAnswer : Float → Converted
-normalizeVelocityAnswer velocity = convertedFor (parameterNumber velocity 1) (normalizedVelocity velocity)
+normalizeVelocityAnswer velocity = convertedFor (parameterNumber (unitFits velocity)) (normalizedVelocity velocity)
 
 unfoldable pub rateScalingAnswer : Float → ℕ → Converted
 rateScalingAnswer note scaling =
-    convertedFor (firstOf (fieldNumber (leb scaling 7)) (parameterNumber note 127)) (rateScaling note scaling)
+    convertedFor
+    (firstOf (fieldNumber (fieldFits (operatorField RateScaling) scaling)) (parameterNumber (noteFits note)))
+    (rateScaling note scaling)
 
 unfoldable pub ampModSensitivityAnswer : ℕ → Converted
-ampModSensitivityAnswer sensitivity = convertedFor (fieldNumber (leb sensitivity 3)) (ampModSensitivity sensitivity)
+ampModSensitivityAnswer sensitivity =
+    convertedFor (fieldNumber (fieldFits (operatorField AmplitudeSensitivity) sensitivity))
+    (ampModSensitivity sensitivity)
 
 unfoldable pub pitchModSensitivityAnswer : ℕ → Converted
-pitchModSensitivityAnswer sensitivity = convertedFor (fieldNumber (leb sensitivity 7)) (pitchModSensitivity sensitivity)
+pitchModSensitivityAnswer sensitivity =
+    convertedFor (fieldNumber (fieldFits (lfoField lfoSensitivity PitchSensitivity) sensitivity))
+    (pitchModSensitivity sensitivity)
 
 -- the limits of its five numbers are those of a patch's: `five-fit` tells them one by one
 unfoldable pub keyboardScalingAnswer : Float → KeyboardScaling → Converted
 keyboardScalingAnswer note k =
-    convertedFor (firstOf (fieldNumber (scalingFits k)) (parameterNumber note 127))
+    convertedFor (firstOf (fieldNumber (scalingFits k)) (parameterNumber (noteFits note)))
     (keyboardScaling note (k .«left_depth») (k .«right_depth») (k .«left_curve») (k .«right_curve») (k .«break_point»))
 
 unfoldable pub frequencyRatioAnswer : ℕ → ℕ → ℕ → ℕ → Tuning

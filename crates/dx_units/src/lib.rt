@@ -11,11 +11,12 @@ ghost use Rattle.dx_units.specs.Answers.{pitchModSensitivityAnswer, keyb
 ghost use Rattle.dx_units.specs.Answers.{frequencyRatioAnswer, frequencyFits};
 pub use dx_units_inner::Increments;
 pub use dx_units_inner::Ratio;
-pub use dx_units_inner::frequency_step;
 pub use dx_units_inner::lut_coarse;
 pub use dx_units_inner::lut_cube_root;
 pub use dx_units_power::pow_2_fast;
+pub use dx_units_step::frequency_step;
 use patch::KeyboardScaling;
+use patch::largest;
 
 // A level, or the number of a refusal.
 pub enum Level {
@@ -45,7 +46,7 @@ pub enum Tuning {
 pub fn operator_level(level: u8) -> Level
     ensures { λ r. ⌜ r ≡ operatorLevelAnswer level ⌝ }
 {
-    if level > 99 {
+    if level > largest::WHOLE {
         return Level::Refused(6);
     }
     Level::Value(dx_units_inner::operator_level(level))
@@ -55,7 +56,7 @@ pub fn operator_level(level: u8) -> Level
 pub fn pitch_envelope_level(level: u8) -> Converted
     ensures { λ r. ⌜ r ≡ pitchEnvelopeLevelAnswer level ⌝ }
 {
-    if level > 99 {
+    if level > largest::WHOLE {
         return Converted::Refused(6);
     }
     Converted::Value(dx_units_inner::pitch_envelope_level(level))
@@ -65,7 +66,7 @@ pub fn pitch_envelope_level(level: u8) -> Converted
 pub fn operator_envelope_increment(rate: u8) -> Converted
     ensures { λ r. ⌜ r ≡ operatorEnvelopeIncrementAnswer rate ⌝ }
 {
-    if rate > 99 {
+    if rate > largest::WHOLE {
         return Converted::Refused(6);
     }
     Converted::Value(dx_units_inner::operator_envelope_increment(rate))
@@ -75,7 +76,7 @@ pub fn operator_envelope_increment(rate: u8) -> Converted
 pub fn pitch_envelope_increment(rate: u8) -> Converted
     ensures { λ r. ⌜ r ≡ pitchEnvelopeIncrementAnswer rate ⌝ }
 {
-    if rate > 99 {
+    if rate > largest::WHOLE {
         return Converted::Refused(6);
     }
     Converted::Value(dx_units_inner::pitch_envelope_increment(rate))
@@ -85,7 +86,7 @@ pub fn pitch_envelope_increment(rate: u8) -> Converted
 pub fn lfo_frequency(rate: u8) -> Converted
     ensures { λ r. ⌜ r ≡ lfoFrequencyAnswer rate ⌝ }
 {
-    if rate > 99 {
+    if rate > largest::WHOLE {
         return Converted::Refused(6);
     }
     Converted::Value(dx_units_inner::lfo_frequency(rate))
@@ -95,7 +96,7 @@ pub fn lfo_frequency(rate: u8) -> Converted
 pub fn lfo_delay(delay: u8) -> Delay
     ensures { λ r. ⌜ r ≡ lfoDelayAnswer delay ⌝ }
 {
-    if delay > 99 {
+    if delay > largest::WHOLE {
         return Delay::Refused(6);
     }
     Delay::Value(dx_units_inner::lfo_delay(delay))
@@ -105,7 +106,7 @@ pub fn lfo_delay(delay: u8) -> Delay
 pub fn normalize_velocity(velocity: f32) -> Converted
     ensures { λ r. ⌜ r ≡ normalizeVelocityAnswer velocity ⌝ }
 {
-    if patch_limits::between(0.0, 1.0, velocity) {
+    if patch_limits::unit_fits(velocity) {
         return Converted::Value(dx_units_inner::normalize_velocity(velocity));
     }
     Converted::Refused(7)
@@ -115,10 +116,10 @@ pub fn normalize_velocity(velocity: f32) -> Converted
 pub fn rate_scaling(note: f32, scaling: u8) -> Converted
     ensures { λ r. ⌜ r ≡ rateScalingAnswer note scaling ⌝ }
 {
-    if scaling > 7 {
+    if scaling > largest::RATE_SCALING {
         return Converted::Refused(6);
     }
-    if patch_limits::between(0.0, 127.0, note) {
+    if patch_limits::note_fits(note) {
         return Converted::Value(dx_units_inner::rate_scaling(note, scaling));
     }
     Converted::Refused(7)
@@ -128,7 +129,7 @@ pub fn rate_scaling(note: f32, scaling: u8) -> Converted
 pub fn amp_mod_sensitivity(sensitivity: u8) -> Converted
     ensures { λ r. ⌜ r ≡ ampModSensitivityAnswer sensitivity ⌝ }
 {
-    if sensitivity > 3 {
+    if sensitivity > largest::AMP_MOD_SENSITIVITY {
         return Converted::Refused(6);
     }
     Converted::Value(dx_units_inner::amp_mod_sensitivity(sensitivity))
@@ -138,7 +139,7 @@ pub fn amp_mod_sensitivity(sensitivity: u8) -> Converted
 pub fn pitch_mod_sensitivity(sensitivity: u8) -> Converted
     ensures { λ r. ⌜ r ≡ pitchModSensitivityAnswer sensitivity ⌝ }
 {
-    if sensitivity > 7 {
+    if sensitivity > largest::LFO_SENSITIVITY {
         return Converted::Refused(6);
     }
     Converted::Value(dx_units_inner::pitch_mod_sensitivity(sensitivity))
@@ -152,7 +153,7 @@ pub fn keyboard_scaling(note: f32, scaling: KeyboardScaling) -> Converted
     if !patch_limits::scaling_fits(scaling) {
         return Converted::Refused(6);
     }
-    if patch_limits::between(0.0, 127.0, note) {
+    if patch_limits::note_fits(note) {
         return Converted::Value(dx_units_inner::keyboard_scaling(
             note,
             scaling.left_depth,
@@ -181,5 +182,8 @@ pub fn frequency_ratio(mode: u8, coarse: u8, fine: u8, detune: u8) -> Tuning
 fn frequency_fits(mode: u8, coarse: u8, fine: u8, detune: u8) -> bool
     ensures { λ r. ⌜ r ≡ frequencyFits mode coarse fine detune ⌝ }
 {
-    (mode <= 1) & (coarse <= 31) & (fine <= 99) & (detune <= 14)
+    (mode <= largest::MODE)
+        & (coarse <= largest::COARSE)
+        & (fine <= largest::WHOLE)
+        & (detune <= largest::DETUNE)
 }

@@ -1,12 +1,12 @@
--- The conversions of dx_units.rs, in its order, and the step for a frequency: one rounding per written operation, in
--- the Rust's order. Definitions only, all to be believed. A step of level is 0.75 dB, an eighth of an octave.
+-- The conversions of dx_units.rs, in its order: one rounding per written operation, in the Rust's order. Definitions
+-- only, all to be believed. A step of level is 0.75 dB, an eighth of an octave.
 use mathlib.Core.Bool.{not, _&&_, _||_, cond}
 use mathlib.Core.List.{List}
 use Prim.Native.Nat.{ℕ, _+_, _-_, _*_, _/_, _%_, _^_, max}
 use lib.Dec.{eqb, ltb}
 use lib.IntN.{pos}
 use lib.ListN.{getD}
-use lib.Ieee.{Float, nan, binary32, neg, lt, ofInt, toUnsigned}
+use lib.Ieee.{Float, nan, binary32, neg, lt, ofInt}
 use mir.Syntax.{w32}
 use mir.Val.{toZ}
 use Rattle.numbers.specs.F32.{_⊕_, _⊖_, _⊗_, _⊘_, decimal, asFloat}
@@ -137,8 +137,3 @@ frequencyRatio high low mode coarse fine detune =
     let base = baseSemitones mode coarse fine ⊕ (asFloat detune ⊖ decimal 7 0) ⊗ decimal 15 3 in
     let ratio = ratioOf high low base ⊗ fineFactor mode fine in
     cond (eqb mode 0) (Note ratio) (Hertz ratio)
-
--- the step of a phase of 32 bits for a frequency in turns a sample: at most a half, which a NaN counts as, times
--- 2 ^ 32, as u32
-unfoldable pub stepFor : Float → ℕ
-stepFor frequency = toUnsigned 32 (minimum frequency (decimal 5 1) ⊗ decimal 4294967296 0)

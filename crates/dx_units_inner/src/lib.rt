@@ -1,6 +1,6 @@
-// The conversions of dx_units.rs themselves, in its order, for callers that have checked their fields, and the step for
-// a frequency, after operator.rs. Each promises its definition; where a table is looked up, the field is asked to be in
-// bounds. `pow_2_fast` is in `dx_units_power`; the entries, which refuse what is out of range, are in `dx_units`.
+// The conversions of dx_units.rs themselves, in its order, for callers that have checked their fields. Each promises
+// its definition; where a table is looked up, the field is asked to be in bounds. `pow_2_fast` is in `dx_units_power`,
+// the step for a frequency in `dx_units_step`; the entries, which refuse what is out of range, are in `dx_units`.
 // Levels count in steps of an eighth of an octave of amplitude, 0.75 dB. The constants are the Rust's, fitted to the
 // old instrument; where a curve has a jump or a corner, it stays.
 ghost use mathlib.Core.Path.{_≡_};
@@ -11,7 +11,7 @@ ghost use Rattle.dx_units_inner.specs.Units.{pitchEnvelopeIncrement, lfo
 ghost use Rattle.dx_units_inner.specs.Units.{delaySteps, lfoDelay};
 ghost use Rattle.dx_units_inner.specs.Units.{normalizedVelocity, rateScaling, ampModSensitivity};
 ghost use Rattle.dx_units_inner.specs.Units.{pitchModSensitivity, bent, sideScaling, keyboardScaling};
-ghost use Rattle.dx_units_inner.specs.Units.{coarseSemitones, baseSemitones, fineFactor, frequencyRatio, stepFor};
+ghost use Rattle.dx_units_inner.specs.Units.{coarseSemitones, baseSemitones, fineFactor, frequencyRatio};
 
 mod tables;
 
@@ -263,14 +263,6 @@ fn fine_factor(mode: u8, fine: u8) -> f32
         }
     }
     1.0
-}
-
-// The step of a phase of 32 bits at a frequency in turns a sample: held at a half turn from there on and for a NaN, and
-// at 0 below 0.
-pub fn frequency_step(frequency: f32) -> u32
-    ensures { λ r. ⌜ r ≡ stepFor frequency ⌝ }
-{
-    numbers::f32_as_u32(numbers::f32_min(frequency, 0.5) * 4294967296.0)
 }
 
 // Two tables whole, which no conversion shows entry by entry, to be compared with the Rust's.

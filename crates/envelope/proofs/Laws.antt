@@ -8,7 +8,8 @@ use lib.Ieee.{Float}
 use Rattle.envelope_inner.specs.declared.Envelope.{Envelope}
 use Rattle.envelope_inner.specs.Set.{operatorSet, pitchSet}
 use Rattle.envelope_inner.proofs.Laws.{rendered-stage}
-use Rattle.envelope.specs.Answers.{stateFits, operatorFits, pitchFits, operatorSetAnswer, pitchSetAnswer, renderAnswer}
+use Rattle.envelope.specs.Answers.{stateFits, operatorFits, pitchFits}
+use Rattle.envelope.specs.Answers.{setAnswer, operatorSetAnswer, pitchSetAnswer, renderAnswer}
 
 module _ (reshape gate : Bool) (rate adScale releaseScale : Float) (e : Envelope) where
   pub render-keeps-9 : stateFits (renderAnswer reshape gate rate adScale releaseScale e .envelope) ≡ stateFits e
@@ -19,8 +20,17 @@ module _ (reshape gate : Bool) (rate adScale releaseScale : Float) (e : Envelope
       go true h = rw h (le-leb _ _ (rendered-stage reshape gate rate adScale releaseScale e (leb-true (e .stage) 3 h)))
       go false h = rw h h
 
+-- setting leaves the stage, refused or not
+pub set-keeps-9 : (e : Envelope) (increment level : List Float)
+    → setAnswer e increment level .envelope .stage ≡ e .stage
+unfolding setAnswer
+set-keeps-9 e increment level = go (stateFits e) refl
+  where
+    go : (b : Bool) → stateFits e ≡ b → setAnswer e increment level .envelope .stage ≡ e .stage
+    go true h = rw h
+    go false h = rw h
+
 module _ (e : Envelope) (rate level : List ℕ) (globalLevel : ℕ) where
-  -- setting leaves the stage, refused or not
   pub operator-set-keeps-9 : operatorSetAnswer e rate level globalLevel .envelope .stage ≡ e .stage
   unfolding operatorSetAnswer operatorSet
   operator-set-keeps-9 = go (stateFits e) (operatorFits rate level globalLevel) refl refl

@@ -9,7 +9,7 @@ use Rattle.numbers.specs.F32.{decimal}
 use Rattle.patch.specs.Packed.{stagesFit}
 use Rattle.envelope_inner.specs.declared.Envelope.{Envelope}
 use Rattle.envelope_inner.specs.Envelope.{isStage, valueAt, currentValue, rendered}
-use Rattle.envelope_inner.specs.Set.{operatorSet, pitchSet}
+use Rattle.envelope_inner.specs.Set.{setTo, operatorSet, pitchSet}
 use Rattle.envelope_inner.specs.Scrub.{scrubbed}
 use Rattle.envelope.specs.declared.Prepared.{Prepared}
 use Rattle.envelope.specs.declared.Rendered.{Rendered}
@@ -40,6 +40,10 @@ notRendered number e = record { number = number; envelope = e; value = decimal 0
 abbrev pub notRead : ℕ → Read
 notRead number = record { number = number; value = decimal 0 0 }
 
+-- an envelope's own increments and levels have no range
+unfoldable pub setAnswer : Envelope → List Float → List Float → Prepared
+setAnswer e increment level = cond (stateFits e) (prepared 0 (setTo e increment level)) (prepared 9 e)
+
 unfoldable pub operatorSetAnswer : Envelope → List ℕ → List ℕ → ℕ → Prepared
 operatorSetAnswer e rate level globalLevel =
     cond (stateFits e)
@@ -59,6 +63,10 @@ renderAnswer reshape gate rate adScale releaseScale e =
 unfoldable pub scrubAnswer : Bool → Envelope → Float → Float → Read
 scrubAnswer reshape e t gateDuration =
     cond (stateFits e) (record { number = 0; value = scrubbed 1 reshape e t gateDuration }) (notRead 9)
+
+unfoldable pub currentValueAnswer : Bool → Envelope → Read
+currentValueAnswer reshape e =
+    cond (stateFits e) (record { number = 0; value = currentValue reshape e }) (notRead 9)
 
 -- a stage that is asked for is at most 3, too; otherwise 6
 unfoldable pub valueAnswer : Bool → Envelope → ℕ → Float → Float → Read

@@ -3,8 +3,8 @@
 // state back as it came, and 0.0 for a value. The functions themselves, for callers that have checked their state, are
 // in `envelope_inner`.
 ghost use mathlib.Core.Path.{_≡_};
-ghost use Rattle.envelope.specs.Answers.{operatorFits, pitchFits, operatorSetAnswer, pitchSetAnswer};
-ghost use Rattle.envelope.specs.Answers.{renderAnswer, scrubAnswer, valueAnswer};
+ghost use Rattle.envelope.specs.Answers.{operatorFits, pitchFits, setAnswer, operatorSetAnswer, pitchSetAnswer};
+ghost use Rattle.envelope.specs.Answers.{renderAnswer, scrubAnswer, currentValueAnswer, valueAnswer};
 pub use envelope_inner::Envelope;
 pub use envelope_inner::init;
 
@@ -25,6 +25,23 @@ pub struct Rendered {
 pub struct Read {
     pub number: u8,
     pub value: f32,
+}
+
+// Increments and levels of an envelope's own, copied as they are.
+pub fn set(envelope: Envelope, increment: [f32; 4], level: [f32; 4]) -> Prepared
+    ensures { λ r. ⌜ r ≡ setAnswer envelope increment level ⌝ }
+{
+    if envelope.stage > 3 {
+        return Prepared {
+            number: 9,
+            envelope: envelope,
+        };
+    }
+    let set = envelope_inner::set(envelope, increment, level);
+    Prepared {
+        number: 0,
+        envelope: set,
+    }
 }
 
 // The value at a time after the gate opened, from the stages' durations alone: the scrub.
@@ -67,6 +84,22 @@ pub fn render(
         number: 0,
         envelope: rendered,
         value: envelope_inner::current_value(rendered, reshape),
+    }
+}
+
+// The value where the envelope stands.
+pub fn current_value(envelope: Envelope, reshape: bool) -> Read
+    ensures { λ r. ⌜ r ≡ currentValueAnswer reshape envelope ⌝ }
+{
+    if envelope.stage > 3 {
+        return Read {
+            number: 9,
+            value: 0.0,
+        };
+    }
+    Read {
+        number: 0,
+        value: envelope_inner::current_value(envelope, reshape),
     }
 }
 

@@ -43,8 +43,8 @@ pub fn init(scale: f32) -> Envelope
     }
 }
 
-// Increments and levels are copied, and nothing else changes.
-fn set(envelope: Envelope, increment: [f32; 4], level: [f32; 4]) -> Envelope
+// Increments and levels, in the Rust's order, are copied, and nothing else changes.
+pub fn set(envelope: Envelope, increment: [f32; 4], level: [f32; 4]) -> Envelope
     ensures { λ r. ⌜ r ≡ setTo envelope increment level ⌝ }
 {
     Envelope {

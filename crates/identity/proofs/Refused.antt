@@ -10,6 +10,7 @@ use lib.Ieee.Fits.{and-l, and-r}
 use Rattle.numbers.specs.F32.{decimal}
 use Rattle.patch.specs.declared.Patch.{Patch}
 use Rattle.patch.specs.declared.ModulationParameters.{ModulationParameters}
+use Rattle.patch.specs.Layout.{patchSensitivity, lfoSensitivity}
 use Rattle.patch.specs.Packed.{patchFits, operatorsFit, stagesFit, modulationsFit, nameFits}
 use Rattle.patch_limits.proofs.Within.{patch-fits}
 use Rattle.algorithms.specs.Opcode.{destination, adding, source, flagged}
@@ -61,7 +62,7 @@ algorithm-of p t =
     let d = leb (p .algorithm) 31 in
     let e = leb (p .feedback) 7 in
     let f = leb (p .«reset_phase») 1 in
-    let g = modulationsFit (p .modulations) 15 in
+    let g = modulationsFit (p .modulations) patchSensitivity in
     let h = leb (p .transpose) 48 in
     let i = nameFits (p .name) in
     let j = eqb (p .«active_operators») 63 in
@@ -90,19 +91,19 @@ module _ (v : Voice) (p : Patch) (state : voice.stateFits v ≡ true) where
   unfolding voice.setPatchAnswer
   patch-refused fits = rw (state, fits) refl
 
-modulations-taken : (l : Lfo) (m : ModulationParameters) → lfo.stateFits l ≡ true → lfo.setAnswer l m .number ≡ cond (modulationsFit m 7) 0 6
+modulations-taken : (l : Lfo) (m : ModulationParameters) → lfo.stateFits l ≡ true → lfo.setAnswer l m .number ≡ cond (modulationsFit m lfoSensitivity) 0 6
 unfolding lfo.setAnswer
-modulations-taken l m state = rw state (go (modulationsFit m 7))
+modulations-taken l m state = rw state (go (modulationsFit m lfoSensitivity))
   where
     go : (b : Bool) → cond b (lfo.prepared 0 (adjusted l m)) (lfo.prepared 6 l) .number ≡ cond b 0 6
     go true = refl
     go false = refl
 
--- a patch in range with an LFO sensitivity of at most 7 has an identifier; any other gets 6
-pub number-of : (p : Patch) → identityOf p .number ≡ cond (patchFits p && modulationsFit (p .modulations) 7) 0 6
+-- a patch in range with a sensitivity that an LFO takes has an identifier; any other gets 6
+pub number-of : (p : Patch) → identityOf p .number ≡ cond (patchFits p && modulationsFit (p .modulations) lfoSensitivity) 0 6
 unfolding identityOf readied
 number-of p = go (patchFits p) refl
   where
-    go : (b : Bool) → patchFits p ≡ b → readied p .number ≡ cond (patchFits p && modulationsFit (p .modulations) 7) 0 6
+    go : (b : Bool) → patchFits p ≡ b → readied p .number ≡ cond (patchFits p && modulationsFit (p .modulations) lfoSensitivity) 0 6
     go true e = rw (patch-taken _ p voice-fresh voice-six e, modulations-taken _ (p .modulations) lfo-fresh, e) refl
     go false e = rw (patch-refused _ p voice-fresh e, e) refl

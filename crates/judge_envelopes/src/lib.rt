@@ -1,5 +1,5 @@
-// The judge's entries 58 to 5f (hex, docs/ORACLE.md): the crate `envelope`. An answer stands from place 5 on. An
-// envelope is its stage in four bytes and eleven floats.
+// The judge's entries 58 to 5f and 74 to 77 (hex, docs/ORACLE.md): the crate `envelope`. An answer stands from place 5
+// on. An envelope is its stage in four bytes and eleven floats.
 use envelope::Prepared;
 use envelope::Read;
 use envelope::Rendered;
@@ -14,6 +14,8 @@ pub fn length(entry: u8) -> usize {
         0x5b => 9,
         0x5c => 15,
         0x5e => 14,
+        0x74 => 33,
+        0x75 => 2,
         _ => 0,
     }
 }
@@ -23,7 +25,7 @@ pub fn answer(entry: u8, s: &[u8], registers: &mut [u8], out: &mut [u8]) -> usiz
     match entry {
         0x58 => store(registers, envelope(s, 1), out, 5),
         0x59 => store(registers, envelope::init(judge_wire::float(s, 1)), out, 5),
-        0x5a | 0x5b => set(entry, s, registers, out),
+        0x5a | 0x5b | 0x74 => set(entry, s, registers, out),
         0x5c => render(s, registers, out),
         _ => put_value(
             out,
@@ -39,15 +41,22 @@ fn store(registers: &mut [u8], envelope: Envelope, out: &mut [u8], at: usize) ->
 }
 
 fn set(entry: u8, s: &[u8], registers: &mut [u8], out: &mut [u8]) -> usize {
-    let done = set_to(
-        entry,
-        envelope(registers, judge_wire::ENVELOPE),
-        judge_wire::eight(s, 1),
-        judge_wire::byte(s, 9),
-    );
+    let done = prepared(entry, s, envelope(registers, judge_wire::ENVELOPE));
     let set = done.envelope;
     let a = judge_wire::put_byte(out, 5, done.number);
     store(registers, set, out, a)
+}
+
+fn prepared(entry: u8, s: &[u8], envelope: Envelope) -> Prepared {
+    if entry == 0x74 {
+        return envelope::set(envelope, judge_wire::four(s, 1), judge_wire::four(s, 17));
+    }
+    set_to(
+        entry,
+        envelope,
+        judge_wire::eight(s, 1),
+        judge_wire::byte(s, 9),
+    )
 }
 
 // Set to the rates and levels in eight bytes.
@@ -79,6 +88,9 @@ fn rendered(s: &[u8], envelope: Envelope) -> Rendered {
 
 fn valued(entry: u8, s: &[u8], envelope: Envelope) -> Read {
     let reshape = judge_wire::byte(s, 1) != 0;
+    if entry == 0x75 {
+        return envelope::current_value(envelope, reshape);
+    }
     if entry == 0x5d {
         return envelope::render_at_sample(
             envelope,

@@ -1,5 +1,5 @@
-// The judge's entries 20 to 2f (hex, docs/ORACLE.md): the crates `patch` and `bank`. An answer stands from place 5 on.
-// A patch is its 156 fields in the struct's order.
+// The judge's entries 20 to 23 and 29 (hex, docs/ORACLE.md): the crates `patch`, `patch_limits` and `patch_packer`. An
+// answer stands from place 5 on. A patch is its 156 fields in the struct's order.
 ghost use Prim.Native.Nat.{_≤_};
 use patch::Envelope;
 use patch::KeyboardScaling;
@@ -12,8 +12,7 @@ pub fn length(entry: u8, s: &[u8]) -> usize {
     match entry {
         0x20 => 157,
         0x22 | 0x23 => 1,
-        0x21 | 0x24 | 0x28 => 3 + judge_wire::half(s, 1) as usize,
-        0x25..=0x27 => 7 + judge_wire::half(s, 1) as usize,
+        0x21 => 3 + judge_wire::half(s, 1) as usize,
         0x29 => 9,
         _ => 0,
     }
@@ -30,8 +29,7 @@ pub fn answer(entry: u8, s: &[u8], registers: &mut [u8], out: &mut [u8]) -> usiz
             5,
             patch_limits::check(patch(registers, judge_wire::PATCH)),
         ),
-        0x29 => modulations_fit(s, out),
-        _ => answer_bank(entry, s, out),
+        _ => modulations_fit(s, out),
     }
 }
 
@@ -61,33 +59,6 @@ fn pack(registers: &[u8], out: &mut [u8]) -> usize {
 fn modulations_fit(s: &[u8], out: &mut [u8]) -> usize {
     let b = judge_wire::eight(s, 1);
     judge_wire::put_bool(out, 5, patch_limits::modulations_fit(modulations(b), b[7]))
-}
-
-fn answer_bank(entry: u8, s: &[u8], out: &mut [u8]) -> usize {
-    let size = judge_wire::half(s, 1);
-    let slot = judge_wire::word_behind(s, 3, size) as usize;
-    put_bank(entry, judge_wire::part(s, 3, size), slot, out)
-}
-
-fn put_bank(entry: u8, bytes: &[u8], slot: usize, out: &mut [u8]) -> usize {
-    match entry {
-        0x26 => put_part(out, bank::number(bytes, slot), bank::part(bytes, slot)),
-        0x27 => judge_wire::put_slice(out, 5, bank::read(bytes, slot)),
-        _ => judge_wire::put_byte(out, 5, bank_number(entry, bytes, slot)),
-    }
-}
-
-fn bank_number(entry: u8, bytes: &[u8], slot: usize) -> u8 {
-    match entry {
-        0x24 => bank::checksum(bytes),
-        0x25 => bank::number(bytes, slot),
-        _ => bank::validate(bytes),
-    }
-}
-
-fn put_part(out: &mut [u8], number: u8, part: &[u8]) -> usize {
-    let a = judge_wire::put_byte(out, 5, number);
-    judge_wire::put_slice(out, a, part)
 }
 
 // The patch in the 156 bytes from a place on.

@@ -1,5 +1,5 @@
-// The judge's entries 50 to 57 (hex, docs/ORACLE.md): the crates `algorithms`, `plan_text` and `algorithms_opcodes`. An
-// answer stands from place 5 on. A plan is its count and six calls of five bytes each.
+// The judge's entries 50 to 57 and 70 to 72 (hex, docs/ORACLE.md): the crates `algorithms`, `plan_text` and
+// `algorithms_opcodes`. An answer stands from place 5 on. A plan is its count and six calls of five bytes each.
 use algorithms::Call;
 use algorithms::Plan;
 
@@ -12,6 +12,8 @@ pub fn length(entry: u8, s: &[u8]) -> usize {
         0x53 | 0x55 => 3 + judge_wire::half(s, 1) as usize,
         0x54 => 63,
         0x56 => 6,
+        0x70 => 39,
+        0x71 => 12 + judge_wire::half(s, 2) as usize,
         _ => 0,
     }
 }
@@ -21,7 +23,7 @@ pub fn answer(entry: u8, s: &[u8], out: &mut [u8]) -> usize {
     match entry {
         0x50 => compile(s, out),
         0x51 => compile_row(s, out),
-        0x52 => judge_wire::put_bool(out, 5, algorithms::is_modulator(judge_wire::byte(s, 1))),
+        0x52 => judge_wire::put_bool(out, 5, algorithms::is_modulating(judge_wire::byte(s, 1))),
         0x53 => print(judge_wire::part(s, 3, judge_wire::half(s, 1)), out),
         0x54 => judge_wire::put_bool(out, 5, algorithms::same_plan(plan(s, 1), plan(s, 32))),
         0x55 => put_six(
@@ -29,6 +31,8 @@ pub fn answer(entry: u8, s: &[u8], out: &mut [u8]) -> usize {
             5,
             algorithms::six_bytes(judge_wire::part(s, 3, judge_wire::half(s, 1))),
         ),
+        0x70 => is_plan_of(s, out),
+        0x71 => is_modulator(s, out),
         _ => judge_wire::put_byte(
             out,
             5,
@@ -55,6 +59,22 @@ fn compile_row(s: &[u8], out: &mut [u8]) -> usize {
     let plan = done.plan;
     let a = judge_wire::put_bytes(out, 5, &[done.number, done.at]);
     put_plan(out, a, plan)
+}
+
+fn is_plan_of(s: &[u8], out: &mut [u8]) -> usize {
+    let operators = judge_wire::byte(s, 1) as usize;
+    let is = algorithms::is_plan_of(operators, six(s, 2), plan(s, 8));
+    judge_wire::put_bool(out, 5, is)
+}
+
+fn is_modulator(s: &[u8], out: &mut [u8]) -> usize {
+    let size = judge_wire::half(s, 2);
+    let operators = judge_wire::byte(s, 1) as usize;
+    let row = judge_wire::word_behind(s, 4, size) as usize;
+    let operator = judge_wire::word_behind(s, 8, size) as usize;
+    let done = algorithms::is_modulator(operators, judge_wire::part(s, 4, size), row, operator);
+    let a = judge_wire::put_byte(out, 5, done.number);
+    judge_wire::put_bool(out, a, done.modulates)
 }
 
 // The printer's text as a slice.

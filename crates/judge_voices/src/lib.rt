@@ -1,5 +1,6 @@
-// The judge's entries 80 to 8f (hex, docs/ORACLE.md): the crate `voice`. An answer stands from place 5 on. A voice is
-// its fields in the struct's order, 666 bytes: a ratio is its kind (0 to the note, 1 to 1 Hz) and a float.
+// The judge's entries 80 to 8f (hex, docs/ORACLE.md): the crates `voice` and `voice_render`. An answer stands from place
+// 5 on. A voice is its fields in the struct's order, 666 bytes: a ratio is its kind (0 to the note, 1 to 1 Hz) and a
+// float.
 ghost use Prim.Native.Nat.{_≤_};
 use algorithms::Plan;
 use dx_units_inner::Ratio;
@@ -26,7 +27,7 @@ pub fn length(entry: u8, s: &[u8]) -> usize {
         0x81 => 159 + judge_wire::half(s, 157) as usize,
         0x82 => 130,
         0x83 => 135,
-        0x84 | 0x85 => 1,
+        0x84 | 0x85 | 0x8b | 0x8c => 1,
         0x86 => 8,
         0x87 => 29 + 4 * judge_wire::half(s, 27) as usize,
         0x88 | 0x89 => 35,
@@ -41,6 +42,8 @@ pub fn answer(entry: u8, s: &[u8], registers: &mut [u8], out: &mut [u8]) -> usiz
         0x81..=0x83 => set(entry, s, registers, out),
         0x85 => judge_wire::put_bytes(out, 5, held(registers)),
         0x86 => bend(s, registers, out),
+        0x8b => set_up(registers, out),
+        0x8c => tell_patch(registers, out),
         _ => render(entry, s, registers, out),
     }
 }
@@ -177,6 +180,22 @@ fn tried_block(v: Voice) -> Prepared {
         number: done.number,
         voice: w,
     }
+}
+
+fn set_up(registers: &mut [u8], out: &mut [u8]) -> usize {
+    let done = voice_render::setup(voice(held(registers)));
+    let v = done.voice;
+    let a = judge_wire::put_byte(out, 5, done.number);
+    let b = judge_wire::put_bool(out, a, done.was_dirty);
+    store(registers, v, out, b)
+}
+
+fn tell_patch(registers: &[u8], out: &mut [u8]) -> usize {
+    let done = voice::patch(voice(held(registers)));
+    let p = done.patch;
+    let a = judge_wire::put_byte(out, 5, done.number);
+    let b = judge_wire::put_bool(out, a, done.has);
+    judge_patches::put_patch(out, b, p)
 }
 
 fn render(entry: u8, s: &[u8], registers: &mut [u8], out: &mut [u8]) -> usize {

@@ -23,7 +23,7 @@ use Rattle.lfo_inner.specs.declared.Motion.{Motion}
 use Rattle.lfo_inner.specs.Lfo.{movedTo, valued, adjusted, restarted, wrapped, stepped, scrubbed, settled}
 use Rattle.patch_limits.specs.Ranges.{sampleRateFits}
 use Rattle.lfo.specs.Answers.{fromZero, stateFits, stepFits, scrubFits, moved, notMoved, moveAnswer, stepAnswer, scrubAnswer}
-use Rattle.lfo.specs.Played.{oneHzFits}
+use Rattle.lfo.specs.Calls.{oneHzFits}
 use Rattle.lfo.proofs.Phases.{FromZero, plus, is-from-zero, under-from-zero, from-zero-le, from-zero-finite, Part, is-part, part-from-zero, part-below-one, parts-add, sum-wraps, product-at-least, below-power, when-finite, past-whole}
 
 -- ---- the tests, taken apart and put together

@@ -1,6 +1,6 @@
--- the laws of the answers and of sequences of calls
+-- the laws of the answers and of calls
 pub mod Tests
 pub mod Fields
 pub mod Phases
 pub mod Accepted
-pub mod Sequences
+pub mod Calls

@@ -1,7 +1,7 @@
 -- Phases from 0 up to 1: the sum of two, less 1 where it reaches 1, is one again, and so is a product below 2 ^ 31 less
 -- its whole part. Each rounding keeps the order, and the largest f32 below 1 is 1 - 2 ^ -24. Assumes nothing.
 use mathlib.Core.Path.{_≡_, refl, sym, _∙_, ap, subst}
-use mathlib.Core.Bool.{Bool, true, false, _&&_, _||_, cond}
+use mathlib.Core.Bool.{Bool, true, false, cond}
 use Prim.Native.Nat.{ℕ, zero, suc, _+_, _-_, _*_, _/_, _%_, _^_, _≤_, _<_, min}
 use native.Mathlib.Nat.{zero-mul, mul-comm, mul-assoc, mul-right-comm, add-mul, mul-le-mul, mul-le-mul-right, div-lt-iff-lt-mul, div-add-mod', mod-lt, mul-le-mul-left}
 use native.Mathlib.Omega.{arith}
@@ -13,23 +13,20 @@ use lib.Ieee.{Float, nan, inf, fin, binary32, up, down, lt, le, eq, fits, neg, a
 use lib.Ieee.Bits.{is-true}
 use lib.Ieee.Back.{round-whole}
 use lib.Ieee.Exact.{HasValue, round-exact}
-use lib.Ieee.Fits.{up-pos, down-pos, and-i, eq→eqb, round-fits}
+use lib.Ieee.Fits.{down-pos, and-i, eq→eqb, round-fits}
 use lib.Ieee.Order.{round-mono}
 use lib.Ieee.Scale.{finite}
 use Rattle.numbers.proofs.Views.{no, on, both, AtLeast, ge-fin, at-least, NotAtLeast, nge-fin, not-at-least, Under, lt-fin, under}
-use Rattle.numbers.proofs.Casts.{digits-lt}
+use Rattle.numbers.proofs.Casts.{digits-lt, le-or}
 use Rattle.utils.proofs.Whole.{whole-exact}
-use Rattle.units.proofs.Bounds.{Plus, p-inf, p-fin, round-plus, Upto, upto, upto-part}
+use Rattle.numbers.proofs.Rounded.{Plus, p-inf, p-fin, round-plus, Upto, upto, upto-at}
+use Rattle.numbers.proofs.Sizes.{no-digits}
 
 -- ---- finite and at least 0
 
 pub data FromZero : Float → Type 0 where
   plus : (m : ℕ) (e : ℤ) → FromZero (fin false m e)
   minus-zero : (e : ℤ) → FromZero (fin true 0 e)
-
-no-digits : (m : ℕ) (e : ℤ) → m * up e ≡ 0 → m ≡ 0
-no-digits zero e h = refl
-no-digits (suc m) e h = let o : 1 ≤ suc m = omega arith in let q = mul-le-mul o (up-pos e) in omega arith
 
 negative-zero : (m : ℕ) (e : ℤ) → m ≡ 0 → FromZero (fin true m e)
 negative-zero m e h = subst (λ (n : ℕ). FromZero (fin true n e)) (sym h) (minus-zero e)
@@ -48,13 +45,6 @@ under-from-zero j nan g h = no h
 under-from-zero j (inf true) g h = no g
 under-from-zero j (inf false) g h = no h
 under-from-zero j (fin s m e) g h = is-from-zero (fin s m e) g tt
-
-le-or : (a b : ℕ) → a ≤ b → T (ltb a b || (eqb a b && true))
-le-or a b h = go (ltb a b) refl
-  where
-    go : (p : Bool) → ltb a b ≡ p → T (p || (eqb a b && true))
-    go true l = tt
-    go false l = and-i (eqb a b) true (let z = ltb-false a b l in let q : a ≡ b = omega arith in eq→eqb q) tt
 
 pub from-zero-le : (x : Float) → FromZero x → T (le (fin false 0 (pos 0)) x)
 unfolding le lt eq
@@ -112,7 +102,7 @@ rounded-part : (n d : ℕ) → 0 < d → n * 2 ^ 24 ≤ 16777215 * d → Part (r
 unfolding round
 rounded-part n d p h =
     from-upto (round binary32 false n d)
-    (upto-part 16777215 23 (round binary32 false n d) (round-plus n d) (is-true _ (round-mono binary32 n d 16777215 (2 ^ 24) p (omega arith) h)))
+    (upto-at 16777215 (negsuc 23) (round binary32 false n d) (round-plus n d) (is-true _ (round-mono binary32 n d 16777215 (2 ^ 24) p (omega arith) h)))
 
 -- a negative rounding of nothing is -0
 cleared : (a b c : ℕ) → 0 < b → a * b ≡ c → c ≡ 0 → a ≡ 0
@@ -216,7 +206,7 @@ wrap-small x p false l = p
 
 upto-two : (n d : ℕ) → 0 < d → n * 2 ^ 23 ≤ 16777215 * d → Upto 16777215 (2 ^ 23) (round binary32 false n d)
 unfolding round
-upto-two n d p h = upto-part 16777215 22 (round binary32 false n d) (round-plus n d) (is-true _ (round-mono binary32 n d 16777215 (2 ^ 23) p (omega arith) h))
+upto-two n d p h = upto-at 16777215 (negsuc 22) (round binary32 false n d) (round-plus n d) (is-true _ (round-mono binary32 n d 16777215 (2 ^ 23) p (omega arith) h))
 
 pub sum-wraps : (x : Float) → Sum x → Part (cond (le (fin false 1 (pos 0)) x) (sub binary32 x (fin false 1 (pos 0))) x)
 sum-wraps _ (sum-small x p) = wrap-small x p (le (fin false 1 (pos 0)) x) refl

@@ -3,15 +3,17 @@
 use mathlib.Core.Bool.{Bool, _&&_, cond}
 use mathlib.Core.List.{List}
 use Prim.Native.Nat.{ℕ}
+use lib.IntN.{pos}
 use lib.Ieee.{Float, lt, le}
 use lib.Ieee.Scale.{finite}
 use Rattle.numbers.specs.F32.{_⊗_, _⊘_, decimal}
 use Rattle.patch.specs.declared.ModulationParameters.{ModulationParameters}
+use Rattle.patch.specs.Layout.{lfoSensitivity}
 use Rattle.patch.specs.Packed.{modulationsFit}
 use Rattle.patch_limits.specs.Ranges.{sampleRateFits}
 use Rattle.lfo_inner.specs.declared.Lfo.{Lfo}
 use Rattle.lfo_inner.specs.declared.Motion.{Motion}
-use Rattle.lfo_inner.specs.Lfo.{freshLfo, adjusted, restarted, stepped, scrubbed, settled}
+use Rattle.lfo_inner.specs.Lfo.{freshLfo, adjusted, movedTo, restarted, stepped, scrubbed, settled}
 use Rattle.lfo_inner.specs.Lfo.{waveAt, rampOf, pitchModOf, ampModOf}
 use Rattle.lfo.specs.declared.Prepared.{Prepared}
 use Rattle.lfo.specs.declared.Moved.{Moved}
@@ -49,17 +51,22 @@ notMoved number lfo state = record { number = number; lfo = lfo; state = state }
 abbrev pub notRead : ℕ → Read
 notRead number = record { number = number; value = decimal 0 0 }
 
--- refused, an LFO of zeros stands there
+-- what a refused start hands out: all zeros but for a phase of 1, so that every other entry refuses it with 9
+unfoldable pub noLfo : Lfo
+noLfo = movedTo (freshLfo (decimal 0 0) (decimal 0 0)) (decimal 1 0) (decimal 0 0) (decimal 0 0) (pos 0)
+
 unfoldable pub initAnswer : Float → Prepared
 initAnswer rate =
     cond (sampleRateFits rate)
     (prepared 0 (freshLfo (decimal 1 0 ⊘ rate) (decimal 1 1)))
-    (prepared 5 (freshLfo (decimal 0 0) (decimal 0 0)))
+    (prepared 5 noLfo)
 
--- a pitch sensitivity is at most 7 here
+-- a pitch sensitivity has a limit of its own here
 unfoldable pub setAnswer : Lfo → ModulationParameters → Prepared
 setAnswer lfo m =
-    cond (stateFits lfo) (cond (modulationsFit m 7) (prepared 0 (adjusted lfo m)) (prepared 6 lfo)) (prepared 9 lfo)
+    cond (stateFits lfo)
+    (cond (modulationsFit m lfoSensitivity) (prepared 0 (adjusted lfo m)) (prepared 6 lfo))
+    (prepared 9 lfo)
 
 unfoldable pub resetAnswer : Lfo → Prepared
 resetAnswer lfo = cond (stateFits lfo) (prepared 0 (restarted lfo)) (prepared 9 lfo)

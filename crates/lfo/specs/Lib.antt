@@ -1,3 +1,3 @@
--- the definitions that the contracts cite, and sequences of calls
+-- the definitions that the contracts cite, and calls as data
 pub mod Answers
-pub mod Played
+pub mod Calls

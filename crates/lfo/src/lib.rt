@@ -30,7 +30,8 @@ pub struct Read {
     pub value: f32,
 }
 
-// A fresh LFO; 5 where the sample rate is not finite, below 8,000 or above 192,000, beside an LFO of zeros.
+// A fresh LFO; 5 where the sample rate is not finite, below 8,000 or above 192,000, beside an LFO that every other
+// entry refuses with 9: all zeros, but for a phase of 1.
 pub fn init(sample_rate: f32) -> Prepared
     ensures { λ r. ⌜ r ≡ initAnswer «sample_rate» ⌝ }
 {
@@ -40,9 +41,11 @@ pub fn init(sample_rate: f32) -> Prepared
             lfo: lfo_inner::fresh(1.0 / sample_rate, 0.1),
         };
     }
+    let mut none = lfo_inner::fresh(0.0, 0.0);
+    none.phase = 1.0;
     Prepared {
         number: 5,
-        lfo: lfo_inner::fresh(0.0, 0.0),
+        lfo: none,
     }
 }
 
@@ -53,7 +56,7 @@ pub fn set(lfo: Lfo, modulations: patch::ModulationParameters) -> Prepared
     if !state_fits(lfo) {
         return Prepared { number: 9, lfo };
     }
-    if !patch_limits::modulations_fit(modulations, 7) {
+    if !patch_limits::modulations_fit(modulations, patch::largest::LFO_SENSITIVITY) {
         return Prepared { number: 6, lfo };
     }
     Prepared {

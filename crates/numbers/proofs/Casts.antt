@@ -165,6 +165,14 @@ pub or-i : (a b : Bool) → T a → T (a || b)
 or-i true b t = tt
 or-i false b t = absurd t
 
+-- a ≤ b as a comparison of floats tests it, either way round
+pub le-or : (a b : ℕ) → a ≤ b → T (ltb a b || (eqb a b && true))
+le-or a b h = go (ltb a b) refl
+  where
+    go : (p : Bool) → ltb a b ≡ p → T (p || (eqb a b && true))
+    go true l = tt
+    go false l = and-i (eqb a b) true (let z = ltb-false a b l in let q : a ≡ b = omega arith in eq→eqb q) tt
+
 pub ge-or : (a b : ℕ) → b ≤ a → T (ltb b a || (eqb a b && true))
 ge-or a b h = go (ltb b a) refl
   where

@@ -89,8 +89,15 @@ operatorField Mode = row 15 0 1 1
 operatorField Coarse = row 15 1 5 31
 operatorField Fine = row 16 0 7 99
 
--- The LFO, for a largest pitch sensitivity: 15 in a patch, 7 where the LFO is set or the sensitivity converted.
--- Yamaha's bytes stop at 127, so three bits would do; the Rust shifts byte 116 unmasked, and decides: four bits.
+-- the largest pitch sensitivity: in a patch, and where the LFO is set or the sensitivity converted
+abbrev pub patchSensitivity : ℕ
+patchSensitivity = 15
+
+abbrev pub lfoSensitivity : ℕ
+lfoSensitivity = 7
+
+-- The LFO, for a largest pitch sensitivity. Yamaha's bytes stop at 127, so three bits would do; the Rust shifts byte
+-- 116 unmasked, and decides: four bits.
 unfoldable pub lfoField : ℕ → LfoName → Field
 lfoField limit LfoRate = row 112 0 7 99
 lfoField limit LfoDelay = row 113 0 7 99
@@ -107,7 +114,7 @@ fieldOf (Pitch n) = later 102 (envelopeField n)
 fieldOf Algorithm = row 110 0 5 31
 fieldOf Feedback = row 111 0 3 7
 fieldOf Reset = row 111 3 1 1
-fieldOf (Lfo n) = lfoField 15 n
+fieldOf (Lfo n) = lfoField patchSensitivity n
 fieldOf Transpose = row 117 0 7 48
 fieldOf (Letter i) = row (118 + i) 0 7 127
 

@@ -1,3 +1,4 @@
 pub mod Layout
 pub mod Form
+pub mod Positions
 pub mod Packed

@@ -22,11 +22,15 @@ bitsIn s f = getD s (f .byte) 0 / 2 ^ f .bit % 2 ^ f .width
 unfoldable pub readIn : List ℕ → Field → ℕ
 readIn s f = min (bitsIn s f) (f .largest)
 
+-- a number is at most its field's largest
+abbrev pub fieldFits : Field → ℕ → Bool
+fieldFits f n = leb n (f .largest)
+
 module _ {N : Type 0} (field : N → Field) where
   -- every number is at most its field's largest
   unfoldable pub within : (N → ℕ) → List N → Bool
   within g [] = true
-  within g (n ∷ ns) = leb (g n) (field n .largest) && within g ns
+  within g (n ∷ ns) = fieldFits (field n) (g n) && within g ns
 
 -- the patch in 128 bytes or more: each field's number, and all six operators active
 unfoldable pub unpacked : List ℕ → Patch

@@ -4,8 +4,11 @@ ghost use mathlib.Core.Path.{_≡_};
 ghost use Prim.Native.Nat.{_+_, _≤_, _<_, _/_, _%_, min};
 ghost use lib.ListN.{length, getD};
 ghost use Rattle.patch.specs.Layout.{later, envelopeField, scalingField, operatorField, lfoField, fieldOf};
+ghost use Rattle.patch.specs.Layout.{patchSensitivity};
 ghost use Rattle.patch.specs.Form.{envelopeWith, scalingWith, operatorWith, modulationsWith, nameWith, zeroPatch};
 ghost use Rattle.patch.specs.Packed.{readIn, unpacked, unpackOf};
+
+pub mod largest;
 
 pub const SYX_SIZE: usize = 128;
 
@@ -131,12 +134,12 @@ fn field(b: u8, unit: u8, size: u8, largest: u8) -> u8
     if bits < largest { bits } else { largest }
 }
 
-// A number up to 99 with a byte for itself.
+// A number with a byte for itself.
 fn whole(s: &[u8], i: usize) -> u8
     requires { ⌜ i < length (now s) ⌝ }
     ensures { λ r. ⌜ r ≡ min (getD (now (s .entry)) i 0 / 1 % 128) 99 ⌝ }
 {
-    field(s[i], 1, 128, 99)
+    field(s[i], 1, 128, largest::WHOLE)
 }
 
 // The keyboard scaling of the operator whose first byte stands at `at`.
@@ -148,8 +151,8 @@ fn unpack_scaling(s: &[u8], at: usize) -> KeyboardScaling
     KeyboardScaling {
         left_depth: whole(s, at + 9),
         right_depth: whole(s, at + 10),
-        left_curve: field(curves, 1, 4, 3),
-        right_curve: field(curves, 4, 4, 3),
+        left_curve: field(curves, 1, 4, largest::CURVE),
+        right_curve: field(curves, 4, 4, largest::CURVE),
         break_point: whole(s, at + 8),
     }
 }
@@ -185,14 +188,14 @@ fn unpack_operator(s: &[u8], at: usize) -> Operator
     let mut o = unpack_stages(s, at);
     let scaling = unpack_scaling(s, at);
     o.keyboard_scaling = scaling;
-    o.rate_scaling = field(rates, 1, 8, 7);
-    o.amp_mod_sensitivity = field(sensitivities, 1, 4, 3);
-    o.velocity_sensitivity = field(sensitivities, 4, 8, 7);
+    o.rate_scaling = field(rates, 1, 8, largest::RATE_SCALING);
+    o.amp_mod_sensitivity = field(sensitivities, 1, 4, largest::AMP_MOD_SENSITIVITY);
+    o.velocity_sensitivity = field(sensitivities, 4, 8, largest::VELOCITY_SENSITIVITY);
     o.level = whole(s, at + 14);
-    o.mode = field(tuning, 1, 2, 1);
-    o.coarse = field(tuning, 2, 32, 31);
+    o.mode = field(tuning, 1, 2, largest::MODE);
+    o.coarse = field(tuning, 2, 32, largest::COARSE);
     o.fine = whole(s, at + 16);
-    o.detune = field(rates, 8, 16, 14);
+    o.detune = field(rates, 8, 16, largest::DETUNE);
     o
 }
 
@@ -200,7 +203,7 @@ fn unpack_operator(s: &[u8], at: usize) -> Operator
 // the Rust: a byte above 127, which Yamaha does not write, gives 8 to 15. A patch may hold these; an LFO refuses them.
 fn unpack_modulations(s: &[u8]) -> ModulationParameters
     requires { ⌜ 128 ≤ length (now s) ⌝ }
-    ensures { λ r. ⌜ r ≡ modulationsWith (λ n. readIn (now (s .entry)) (lfoField 15 n)) ⌝ }
+    ensures { λ r. ⌜ r ≡ modulationsWith (λ n. readIn (now (s .entry)) (lfoField patchSensitivity n)) ⌝ }
 {
     let shape = s[116];
     ModulationParameters {
@@ -208,9 +211,9 @@ fn unpack_modulations(s: &[u8]) -> ModulationParameters
         rate: whole(s, 112),
         pitch_mod_depth: whole(s, 114),
         amp_mod_depth: whole(s, 115),
-        reset_phase: field(shape, 1, 2, 1),
-        waveform: field(shape, 2, 8, 5),
-        pitch_mod_sensitivity: field(shape, 16, 16, 15),
+        reset_phase: field(shape, 1, 2, largest::RESET_PHASE),
+        waveform: field(shape, 2, 8, largest::WAVEFORM),
+        pitch_mod_sensitivity: field(shape, 16, 16, largest::PATCH_SENSITIVITY),
     }
 }
 
@@ -219,7 +222,7 @@ fn letter(s: &[u8], i: usize) -> u8
     requires { ⌜ i < length (now s) ⌝ }
     ensures { λ r. ⌜ r ≡ min (getD (now (s .entry)) i 0 / 1 % 128) 127 ⌝ }
 {
-    field(s[i], 1, 128, 127)
+    field(s[i], 1, 128, largest::LETTER)
 }
 
 fn unpack_name(s: &[u8]) -> [u8; 10]
@@ -266,11 +269,11 @@ fn unpack_whole(s: &[u8]) -> Patch
     Patch {
         op,
         pitch_envelope,
-        algorithm: field(s[110], 1, 32, 31),
-        feedback: field(s[111], 1, 8, 7),
-        reset_phase: field(s[111], 8, 2, 1),
+        algorithm: field(s[110], 1, 32, largest::ALGORITHM),
+        feedback: field(s[111], 1, 8, largest::FEEDBACK),
+        reset_phase: field(s[111], 8, 2, largest::RESET_PHASE),
         modulations,
-        transpose: field(s[117], 1, 128, 48),
+        transpose: field(s[117], 1, 128, largest::TRANSPOSE),
         name,
         active_operators: 63,
     }

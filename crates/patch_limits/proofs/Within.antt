@@ -10,6 +10,7 @@ use Rattle.patch.specs.declared.Operator.{Operator}
 use Rattle.patch.specs.declared.Patch.{Patch}
 use Rattle.patch.specs.Layout.{Field, later, Place, Of, envelopeField, scalingField, operatorField, fieldOf, stages}
 use Rattle.patch.specs.Layout.{envelopeNames, scalingNames, operatorNames, lfoNames, letters, sharedNames, layout}
+use Rattle.patch.specs.Layout.{patchSensitivity}
 use Rattle.patch.specs.Form.{envelopeNumber, scalingNumber, operatorNumber, lfoNumber, operatorAt, numberOf}
 use Rattle.patch.specs.Packed.{within, stagesFit, scalingFits, operatorFits, operatorsFit, modulationsFit, nameFits}
 use Rattle.patch.specs.Packed.{patchFits}
@@ -60,12 +61,12 @@ module _ (p : Patch) where
   unfolding operatorFits within operatorNames envelopeNames scalingNames fieldOf later numberOf operatorField
   operator-places k = refl
 
-  shared-places : W sharedNames ≡ stagesFit (p .«pitch_envelope» .rate) && stagesFit (p .«pitch_envelope» .level) && leb (p .algorithm) 31 && leb (p .feedback) 7 && leb (p .«reset_phase») 1 && modulationsFit (p .modulations) 15 && leb (p .transpose) 48 && nameFits (p .name)
+  shared-places : W sharedNames ≡ stagesFit (p .«pitch_envelope» .rate) && stagesFit (p .«pitch_envelope» .level) && leb (p .algorithm) 31 && leb (p .feedback) 7 && leb (p .«reset_phase») 1 && modulationsFit (p .modulations) patchSensitivity && leb (p .transpose) 48 && nameFits (p .name)
   unfolding stagesFit modulationsFit nameFits within stages sharedNames envelopeNames lfoNames letters fieldOf later
       numberOf lfoNumber envelopeField envelopeNumber
   shared-places = simp (and-assoc, and-true)
 
   -- a patch's limits, by its parts
-  pub patch-fits : patchFits p ≡ operatorsFit (p .op) && stagesFit (p .«pitch_envelope» .rate) && stagesFit (p .«pitch_envelope» .level) && leb (p .algorithm) 31 && leb (p .feedback) 7 && leb (p .«reset_phase») 1 && modulationsFit (p .modulations) 15 && leb (p .transpose) 48 && nameFits (p .name) && eqb (p .«active_operators») 63
+  pub patch-fits : patchFits p ≡ operatorsFit (p .op) && stagesFit (p .«pitch_envelope» .rate) && stagesFit (p .«pitch_envelope» .level) && leb (p .algorithm) 31 && leb (p .feedback) 7 && leb (p .«reset_phase») 1 && modulationsFit (p .modulations) patchSensitivity && leb (p .transpose) 48 && nameFits (p .name) && eqb (p .«active_operators») 63
   unfolding patchFits operatorsFit
   patch-fits = simp (by-operators, operator-places, shared-places, and-assoc)

@@ -5,28 +5,33 @@ use patch::KeyboardScaling;
 use patch::ModulationParameters;
 use patch::Operator;
 use patch::Patch;
+use patch::largest;
 ghost use mathlib.Core.Path.{_≡_};
-ghost use Rattle.patch_limits.specs.Ranges.{between, sampleRateFits};
+ghost use Rattle.patch_limits.specs.Ranges.{between, sampleRateFits, noteFits, unitFits};
 ghost use Rattle.patch.specs.Packed.{stagesFit, scalingFits, operatorFits, operatorsFit, modulationsFit};
 ghost use Rattle.patch.specs.Packed.{nameFits, patchFits, checkOf};
 
-// Whether the four rates or levels of an envelope are at most 99. They are lent: an array of four bytes that is handed
-// over as a value comes in a register, to be taken apart bit by bit, where sixteen bytes can be tested as one.
+// Whether the four rates or levels of an envelope are at most their largest. They are lent: an array of four bytes that
+// is handed over as a value comes in a register, to be taken apart bit by bit, where sixteen bytes can be tested as
+// one.
 pub fn stages_fit(x: &[u8; 4]) -> bool
     ensures { λ r. ⌜ r ≡ stagesFit (now (x .entry)) ⌝ }
 {
-    (x[0] <= 99) & (x[1] <= 99) & (x[2] <= 99) & (x[3] <= 99)
+    (x[0] <= largest::WHOLE)
+        & (x[1] <= largest::WHOLE)
+        & (x[2] <= largest::WHOLE)
+        & (x[3] <= largest::WHOLE)
 }
 
 // Whether each number of a struct is at most its field's largest.
 pub fn scaling_fits(k: KeyboardScaling) -> bool
     ensures { λ r. ⌜ r ≡ scalingFits k ⌝ }
 {
-    (k.break_point <= 99)
-        & (k.left_depth <= 99)
-        & (k.right_depth <= 99)
-        & (k.left_curve <= 3)
-        & (k.right_curve <= 3)
+    (k.break_point <= largest::WHOLE)
+        & (k.left_depth <= largest::WHOLE)
+        & (k.right_depth <= largest::WHOLE)
+        & (k.left_curve <= largest::CURVE)
+        & (k.right_curve <= largest::CURVE)
 }
 
 pub fn operator_fits(o: Operator) -> bool
@@ -36,42 +41,42 @@ pub fn operator_fits(o: Operator) -> bool
     stages_fit(&o.envelope.rate)
         & stages_fit(&o.envelope.level)
         & scaling_fits(keyboard_scaling)
-        & (o.rate_scaling <= 7)
-        & (o.detune <= 14)
-        & (o.amp_mod_sensitivity <= 3)
-        & (o.velocity_sensitivity <= 7)
-        & (o.level <= 99)
-        & (o.mode <= 1)
-        & (o.coarse <= 31)
-        & (o.fine <= 99)
+        & (o.rate_scaling <= largest::RATE_SCALING)
+        & (o.detune <= largest::DETUNE)
+        & (o.amp_mod_sensitivity <= largest::AMP_MOD_SENSITIVITY)
+        & (o.velocity_sensitivity <= largest::VELOCITY_SENSITIVITY)
+        & (o.level <= largest::WHOLE)
+        & (o.mode <= largest::MODE)
+        & (o.coarse <= largest::COARSE)
+        & (o.fine <= largest::WHOLE)
 }
 
-// The pitch sensitivity's limit is the caller's: 15 in a patch, 7 where the LFO is set or the sensitivity converted.
+// The pitch sensitivity's limit is the caller's: a patch has another than an LFO that is set.
 pub fn modulations_fit(m: ModulationParameters, limit: u8) -> bool
     ensures { λ r. ⌜ r ≡ modulationsFit m limit ⌝ }
 {
-    (m.rate <= 99)
-        & (m.delay <= 99)
-        & (m.pitch_mod_depth <= 99)
-        & (m.amp_mod_depth <= 99)
-        & (m.reset_phase <= 1)
-        & (m.waveform <= 5)
+    (m.rate <= largest::WHOLE)
+        & (m.delay <= largest::WHOLE)
+        & (m.pitch_mod_depth <= largest::WHOLE)
+        & (m.amp_mod_depth <= largest::WHOLE)
+        & (m.reset_phase <= largest::RESET_PHASE)
+        & (m.waveform <= largest::WAVEFORM)
         & (m.pitch_mod_sensitivity <= limit)
 }
 
 fn name_fits(name: &[u8; 10]) -> bool
     ensures { λ r. ⌜ r ≡ nameFits (now (name .entry)) ⌝ }
 {
-    (name[0] <= 127)
-        & (name[1] <= 127)
-        & (name[2] <= 127)
-        & (name[3] <= 127)
-        & (name[4] <= 127)
-        & (name[5] <= 127)
-        & (name[6] <= 127)
-        & (name[7] <= 127)
-        & (name[8] <= 127)
-        & (name[9] <= 127)
+    (name[0] <= largest::LETTER)
+        & (name[1] <= largest::LETTER)
+        & (name[2] <= largest::LETTER)
+        & (name[3] <= largest::LETTER)
+        & (name[4] <= largest::LETTER)
+        & (name[5] <= largest::LETTER)
+        & (name[6] <= largest::LETTER)
+        & (name[7] <= largest::LETTER)
+        & (name[8] <= largest::LETTER)
+        & (name[9] <= largest::LETTER)
 }
 
 fn operators_fit(op: [Operator; 6]) -> bool
@@ -93,11 +98,11 @@ pub fn patch_fits(p: Patch) -> bool
     operators_fit(op)
         & stages_fit(&p.pitch_envelope.rate)
         & stages_fit(&p.pitch_envelope.level)
-        & (p.algorithm <= 31)
-        & (p.feedback <= 7)
-        & (p.reset_phase <= 1)
-        & modulations_fit(modulations, 15)
-        & (p.transpose <= 48)
+        & (p.algorithm <= largest::ALGORITHM)
+        & (p.feedback <= largest::FEEDBACK)
+        & (p.reset_phase <= largest::RESET_PHASE)
+        & modulations_fit(modulations, largest::PATCH_SENSITIVITY)
+        & (p.transpose <= largest::TRANSPOSE)
         & name_fits(&p.name)
         & (p.active_operators == 63)
 }
@@ -121,4 +126,18 @@ pub fn sample_rate_fits(rate: f32) -> bool
     ensures { λ r. ⌜ r ≡ sampleRateFits rate ⌝ }
 {
     between(8000.0, 192000.0, rate)
+}
+
+// Number 7: a note.
+pub fn note_fits(note: f32) -> bool
+    ensures { λ r. ⌜ r ≡ noteFits note ⌝ }
+{
+    between(0.0, 127.0, note)
+}
+
+// Number 7: a velocity, a brightness, an envelope control or an amplitude modulation.
+pub fn unit_fits(x: f32) -> bool
+    ensures { λ r. ⌜ r ≡ unitFits x ⌝ }
+{
+    between(0.0, 1.0, x)
 }

@@ -1,26 +1,23 @@
 -- There and back: unpacking what was packed gives the patch, and packing what was unpacked gives the bytes
 -- exactly if they were clean. Assumes nothing.
-use mathlib.Core.Path.{_≡_, refl, sym, _∙_, ap, ap₂}
+use mathlib.Core.Path.{_≡_, refl, sym, _∙_, ap}
 use mathlib.Core.Bool.{true, and-eq-true-iff}
-use mathlib.Core.List.{List, [], _∷_}
-use Prim.Native.Nat.{ℕ, zero, suc, _/_, _%_, _^_, _<_, _≤_}
+use mathlib.Core.List.{List}
+use Prim.Native.Nat.{ℕ, _/_, _%_, _^_, _<_, _≤_}
 use native.Mathlib.Nat.{zero-add}
 use native.Mathlib.Omega.{arith}
 use borrow.Author.Tests.{eqb-true, le-ltb, ltb-true}
 use lib.Dec.{eqb, ltb}
 use lib.ListN.{length, getD, take}
 use lib.Seq.{ext-getD, getD-take, length-take-le}
-use Rattle.patch.specs.declared.Envelope.{Envelope}
-use Rattle.patch.specs.declared.Operator.{Operator}
 use Rattle.patch_packer.specs.declared.Packed.{Packed}
 use Rattle.patch.specs.declared.Patch.{Patch}
 use Rattle.patch.specs.Layout.{Place, later, envelopeField, scalingField, operatorField, lfoField, fieldOf}
 use Rattle.patch.specs.Layout.{envelopeNames, scalingNames, operatorNames, lfoNames, letters, sharedNames, layout}
-use Rattle.patch.specs.Form.{envelopeWith, scalingWith, operatorWith, modulationsWith, nameWith, patchWith}
-use Rattle.patch.specs.Form.{envelopeNumber, scalingNumber, operatorNumber, lfoNumber, operatorAt, noOperator, numberOf}
-use Rattle.patch.specs.Form.{ShapedEnvelope, Shaped}
+use Rattle.patch.specs.Form.{patchWith, numberOf, Shaped}
 use Rattle.patch.specs.Packed.{bitsIn, readIn, within, unpacked, patchFits, unpackOf}
 use Rattle.patch_packer.specs.Packing.{byteOf, packed, packOf, Clean}
+use Rattle.patch.proofs.Made.{patch-numbers}
 use Rattle.patch.proofs.Positions.{patch-with}
 use Rattle.patch.proofs.Reading.{numbers-read, numbers-low, unpacked-fits}
 use Rattle.patch.proofs.Each.{every, Each, each, both-each, map-each, each-within, within-each}
@@ -42,44 +39,6 @@ table-largest : every (λ n. ltb (fieldOf n .largest) (2 ^ fieldOf n .width)) la
 unfolding every layout operatorNames envelopeNames scalingNames lfoNames letters sharedNames fieldOf later operatorField
     envelopeField scalingField lfoField
 table-largest = refl
-
--- the first numbers of f, and that a list is made of its elements
-unfoldable firsts : {A : Type 0} → (ℕ → A) → ℕ → List A
-firsts f zero = []
-firsts f (suc n) = f 0 ∷ firsts (λ i. f (suc i)) n
-
-firsts-of : {A : Type 0} (d : A) (xs : List A) (f : ℕ → A) → ((i : ℕ) → f i ≡ getD xs i d) → firsts f (length xs) ≡ xs
-unfolding firsts
-firsts-of d [] f h = refl
-firsts-of d (x ∷ xs) f h = ap₂ _∷_ (h 0) (firsts-of d xs (λ i. f (suc i)) (λ i. h (suc i)))
-
--- a list of n elements, written out
-listed : {A : Type 0} (d : A) (n : ℕ) (xs : List A) → length xs ≡ n → firsts (λ i. getD xs i d) n ≡ xs
-listed d n xs e = ap (firsts (λ i. getD xs i d)) (sym e) ∙ firsts-of d xs (λ i. getD xs i d) (λ i. refl)
-
-envelope-numbers : (e : Envelope) → ShapedEnvelope e → envelopeWith (envelopeNumber e) ≡ e
-unfolding envelopeWith envelopeNumber firsts
-envelope-numbers e h =
-    let r = listed 0 4 (e .rate) (h .rates) in
-    let l = listed 0 4 (e .level) (h .levels) in
-    ap₂ (λ (x y : List ℕ). record { rate = x; level = y }) r l
-
-operator-numbers : (o : Operator) → ShapedEnvelope (o .envelope) → operatorWith (operatorNumber o) ≡ o
-unfolding operatorWith operatorNumber scalingWith scalingNumber
-operator-numbers o h = rw (envelope-numbers (o .envelope) h)
-
-operators-listed : (os : List Operator) → length os ≡ 6
-    → operatorAt os 0 ∷ operatorAt os 1 ∷ operatorAt os 2 ∷ operatorAt os 3 ∷ operatorAt os 4 ∷ operatorAt os 5 ∷ []
-    ≡ os
-unfolding operatorAt firsts
-operators-listed os e = listed noOperator 6 os e
-
--- a patch is made of its numbers
-pub patch-numbers : (p : Patch) → Shaped p → patchWith (numberOf p) (p .«active_operators») ≡ p
-unfolding patchWith numberOf modulationsWith lfoNumber nameWith firsts
-patch-numbers p h =
-    let o : (k : ℕ) → k < 6 → operatorWith (operatorNumber (operatorAt (p .op) k)) ≡ operatorAt (p .op) k = λ k b. operator-numbers (operatorAt (p .op) k) (h .envelopes k b) in
-    rw (o 0 (omega arith), o 1 (omega arith), o 2 (omega arith), o 3 (omega arith), o 4 (omega arith), o 5 (omega arith), operators-listed (p .op) (h .operators), envelope-numbers (p .«pitch_envelope») (h .pitch), listed 0 10 (p .name) (h .letters))
 
 -- the packed byte k
 packed-byte : (p : Patch) (k : ℕ) → k < 128 → getD (packed p) k 0 ≡ byteOf fieldOf (numberOf p) layout k

@@ -5,8 +5,7 @@ use patch::Operator;
 use patch::Patch;
 ghost use mathlib.Core.Path.{_≡_};
 ghost use mathlib.Core.Bool.{true};
-ghost use Prim.Native.Nat.{_+_, _≤_};
-ghost use lib.ListN.{length};
+ghost use Prim.Native.Nat.{_≤_};
 ghost use lib.Seq.{paste};
 ghost use Rattle.patch.specs.Packed.{operatorFits, patchFits};
 ghost use Rattle.patch_packer.specs.Packing.{operatorBytes, sharedBytes, packed, packOf};
@@ -93,24 +92,12 @@ fn shared_bytes(p: Patch) -> [u8; 26]
     ]
 }
 
-// The bytes of `b` from index `at` on.
-fn put(out: &mut [u8], at: usize, b: &[u8])
-    requires { ⌜ at + length (now b) ≤ length (now out) ⌝ }
-    ensures { λ _. ⌜ now (out .exit) ≡ paste (now (out .entry)) at (now (b .entry)) (length (now (b .entry))) ⌝ }
-{
-    let mut i = 0usize;
-    while i < b.len() {
-        out[at + i] = b[i];
-        i += 1;
-    }
-}
-
 fn put_operator(out: &mut [u8; 128], at: usize, o: Operator)
     requires { ⌜ (at ≤ 111) × (operatorFits o ≡ true) ⌝ }
     ensures { λ _. ⌜ now (out .exit) ≡ paste (now (out .entry)) at (operatorBytes o) 17 ⌝ }
 {
     let b = operator_bytes(o);
-    put(out, at, &b);
+    lent_bytes::put(out, at, &b);
 }
 
 fn put_shared(out: &mut [u8; 128], p: Patch)
@@ -118,7 +105,7 @@ fn put_shared(out: &mut [u8; 128], p: Patch)
     ensures { λ _. ⌜ now (out .exit) ≡ paste (now (out .entry)) 102 (sharedBytes p) 26 ⌝ }
 {
     let b = shared_bytes(p);
-    put(out, 102, &b);
+    lent_bytes::put(out, 102, &b);
 }
 
 fn pack_whole(p: Patch) -> [u8; 128]

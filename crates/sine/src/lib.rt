@@ -6,11 +6,11 @@ ghost use mathlib.Core.Path.{_≡_};
 ghost use Prim.Native.Nat.{_<_};
 ghost use lib.Dec.{T};
 ghost use lib.ListN.{getD};
-ghost use lib.Ieee.{nan};
+ghost use lib.Ieee.{nan, isNan};
 ghost use Rattle.numbers.specs.Words.{product32};
 ghost use Rattle.sine.specs.Table.{lutSine};
 ghost use Rattle.sine.specs.Pairs.{sinePairs};
-ghost use mathlib.Core.Bool.{true};
+ghost use mathlib.Core.Bool.{true, false};
 ghost use Rattle.sine.specs.Sine.{sineOf, stepsOf, nearBy, modulated, phaseLine, sinePm};
 ghost use Rattle.sine.specs.Bound.{within};
 
@@ -31,17 +31,19 @@ pub fn sine_pairs() -> [f32; 1024]
     pairs::SINE_PAIRS
 }
 
-// The sine at a phase in turns, of which the whole part is dropped; a negative phase counts as 0.
+// The sine at a phase in turns, of which the whole part is dropped; a negative phase counts as 0. Where the lent table
+// is the sine's, it is finite and from -1 to 1, at an infinite phase too; at a NaN it is a NaN.
 pub fn sine(lut: &[f32; 641], phase: f32) -> f32
-    ensures { λ r. ⌜ r ≡ sineOf (now (lut .entry)) phase ⌝ }
+    ensures { λ r. ⌜ (r ≡ sineOf (now (lut .entry)) phase)
+        × (now (lut .entry) ≡ lutSine → isNan phase ≡ false → T (within r)) ⌝ }
 {
     utils::interpolate_wrap(lut, phase, 512.0)
 }
 
 // The sine at a phase of 32 bits plus a modulation in turns, from -32 up to 32: beyond that, and at a
-// NaN, Rust's cast decides.
+// NaN, Rust's cast decides. Where the lent pairs are the sine's, it is finite and from -1 to 1 at every modulation.
 pub fn sine_pm(pairs: &[f32; 1024], phase: u32, pm: f32) -> f32
-    ensures { λ r. ⌜ r ≡ sinePm (now (pairs .entry)) phase pm ⌝ }
+    ensures { λ r. ⌜ (r ≡ sinePm (now (pairs .entry)) phase pm) × (now (pairs .entry) ≡ sinePairs → T (within r)) ⌝ }
 {
     line(pairs, modulate(phase, pm))
 }
@@ -106,9 +108,10 @@ fn steps(pm: f32) -> u32
 
 // The straight line from the entry at a phase towards the next. The phase's lowest 23 bits over 2^23 are an
 // f32, with no rounding: the same as Rust's quotient by 2^32. They are what the highest nine leave of the phase: by a
-// mask of their own the compiler masks the nine as well, and the load waits for it.
+// mask of their own the compiler masks the nine as well, and the load waits for it. Where the lent pairs are the
+// sine's, it is finite and from -1 to 1.
 pub fn line(pairs: &[f32; 1024], phase: u32) -> f32
-    ensures { λ r. ⌜ r ≡ phaseLine (now (pairs .entry)) phase ⌝ }
+    ensures { λ r. ⌜ (r ≡ phaseLine (now (pairs .entry)) phase) × (now (pairs .entry) ≡ sinePairs → T (within r)) ⌝ }
 {
     let integral = (phase >> 23) as usize;
     let rest = phase as usize - integral * 8388608;

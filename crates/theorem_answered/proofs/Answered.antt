@@ -14,20 +14,21 @@ use Rattle.sine.specs.Table.{lutSine}
 use Rattle.sine.specs.Pairs.{sinePairs}
 use Rattle.units.specs.Tables.{lutPitchRatioHigh, lutPitchRatioLow}
 use Rattle.patch.specs.declared.Patch.{Patch}
-use Rattle.patch_limits.specs.Ranges.{between, sampleRateFits}
+use Rattle.patch_limits.specs.Ranges.{between, noteFits, unitFits, sampleRateFits}
 use Rattle.algorithms.specs.Plan.{counted}
 use Rattle.algorithms_opcodes.specs.Opcodes.{sixOperators}
 use Rattle.lfo_inner.specs.declared.Lfo.{Lfo}
 use Rattle.lfo.specs.Answers as lfo
-use Rattle.lfo.specs.Played.{Valid}
-use Rattle.lfo.proofs.Sequences.{init-valid}
+use Rattle.lfo.specs.Calls.{Valid}
+use Rattle.lfo.proofs.Calls.{init-valid}
 use Rattle.voice.specs.declared.Voice.{Voice}
 use Rattle.voice.specs.Answers.{stateFits, initAnswer, setPatchAnswer}
+use Rattle.voice.proofs.Kept.{init-fits, set-patch-keeps}
 use Rattle.voice_render.specs.declared.VoiceParameters.{VoiceParameters}
 use Rattle.voice_render.specs.Setup.{setUp}
 use Rattle.voice_render.specs.Block.{sounded}
 use Rattle.voice_render.specs.Answers.{blockFits, parametersFit, unsounded, sounding, renderAnswer}
-use Rattle.theorem_runs.proofs.Voices.{init-fits, set-patch-keeps, render-keeps}
+use Rattle.voice_render.proofs.Kept.{render-keeps}
 use Rattle.identity.specs.declared.Ready.{Ready}
 use Rattle.identity.specs.declared.Playing.{Playing}
 use Rattle.identity.specs.Identity.{readied, parametersOf, silence, setUpFor, blockPlayed, blocksPlayed, identityOf}
@@ -41,13 +42,13 @@ together e f = rw (e, f) refl
 
 -- a note that a block takes, and the modulations
 abbrev pub KeyFits : Float → Type 0
-KeyFits x = between (decimal 0 0) (decimal 127 0) x ≡ true
+KeyFits x = noteFits x ≡ true
 
 abbrev PitchFits : Float → Type 0
 PitchFits x = between (minusDecimal 4 0) (decimal 4 0) x ≡ true
 
 abbrev UnitFits : Float → Type 0
-UnitFits x = between (decimal 0 0) (decimal 1 0) x ≡ true
+UnitFits x = unitFits x ≡ true
 
 silence-fits : blockFits (length silence) ≡ true
 unfolding blockFits

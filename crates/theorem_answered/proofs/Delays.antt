@@ -9,10 +9,11 @@ use lib.IntN.{ℤ, pos}
 use lib.Ieee.{Float, fin, binary32, up, down, lt, le, add, sum, round}
 use Rattle.numbers.specs.F32.{_⊕_, _⊖_, _⊗_, decimal}
 use Rattle.numbers.proofs.Views.{on, NotAtLeast, nge-fin, not-at-least}
-use Rattle.units.proofs.Bounds.{round-plus}
+use Rattle.numbers.proofs.Rounded.{round-plus}
 use Rattle.lfo_inner.specs.Lfo.{atMostOne, delayStepped, rampOf}
 use Rattle.lfo.proofs.Phases.{FromZero, plus, minus-zero, no-part, part-from-zero, Sum, sum-of, sum-small, parts-add, AtLeastZero, infinite, some, product-at-least, plus-at-least, gone}
-use Rattle.theorem_answered.proofs.Shares.{Share, share, no-share, share-from-zero, twice-past-half}
+use Rattle.numbers.proofs.Sizes.{Share, share, no-share}
+use Rattle.theorem_answered.proofs.Shares.{share-from-zero, twice-past-half}
 use Rattle.theorem_answered.proofs.Waves.{zero-share, one-share}
 
 -- ---- a sum of two that are at least 0

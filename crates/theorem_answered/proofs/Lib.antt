@@ -1,7 +1,6 @@
 -- the laws of an identifier's calls
 pub mod Shares
 pub mod Ranges
-pub mod Lines
 pub mod Turns
 pub mod Waves
 pub mod Delays

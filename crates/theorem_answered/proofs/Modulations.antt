@@ -2,7 +2,6 @@
 -- then its pitch modulation is from -4 to 4 and its amplitude modulation from 0 to 1. Assumes nothing.
 use mathlib.Core.Path.{_≡_, refl, sym, _∙_, ap, subst}
 use mathlib.Core.Bool.{Bool, true, false, _&&_, cond}
-use mathlib.Core.List.{[], _∷_}
 use Prim.Native.Nat.{ℕ}
 use native.Mathlib.Omega.{arith}
 use lib.Dec.{T}
@@ -14,20 +13,22 @@ use Rattle.numbers.specs.F32.{_⊕_, _⊖_, _⊗_, decimal, minusDecimal, asFlo
 use Rattle.dx_units_inner.specs.Units.{pitchModSensitivity}
 use Rattle.patch.specs.declared.Patch.{Patch}
 use Rattle.patch.specs.declared.ModulationParameters.{ModulationParameters}
+use Rattle.patch.specs.Layout.{lfoSensitivity}
 use Rattle.patch.specs.Packed.{patchFits, modulationsFit}
-use Rattle.patch_limits.specs.Ranges.{between, sampleRateFits}
+use Rattle.patch_limits.specs.Ranges.{between, unitFits, sampleRateFits}
 use Rattle.sine.specs.Table.{lutSine}
 use Rattle.lfo_inner.specs.declared.Lfo.{Lfo}
 use Rattle.lfo_inner.specs.Lfo.{freshLfo, adjusted, movedTo, valued, restarted, stepped, settled, firstOf, secondOf, rampOf, pitchModOf, ampModOf}
 use Rattle.lfo.specs.Answers.{fromZero, stateFits, stepFits, moved, initAnswer, setAnswer, resetAnswer, moveAnswer, stepAnswer, readAnswer, pitchModAnswer, ampModAnswer}
-use Rattle.lfo.specs.Played.{Set, Reset, Step, answerTo, played, Valid}
+use Rattle.lfo.specs.Calls.{Set, Reset, Step, answerTo, Valid}
 use Rattle.lfo.proofs.Phases.{FromZero, plus}
 use Rattle.lfo.proofs.Accepted.{phase-part}
-use Rattle.lfo.proofs.Sequences.{init-valid, played-valid}
+use Rattle.lfo.proofs.Calls.{init-valid, call-keeps}
 use Rattle.identity.specs.Identity.{readied, identityOf}
 use Rattle.identity.proofs.Refused.{number-of}
 use Rattle.theorem_answered.proofs.Ranges.{share-low, share-high, held-low, held-high}
-use Rattle.theorem_answered.proofs.Shares.{Held, Share, share-small, product-small, product-two, product-share, past-half}
+use Rattle.numbers.proofs.Sizes.{Held, Share}
+use Rattle.theorem_answered.proofs.Shares.{share-small, product-small, product-two, product-share, past-half}
 use Rattle.theorem_answered.proofs.Waves.{zero-share, down-share, wave-share, drawn-share}
 use Rattle.theorem_answered.proofs.Delays.{delay-share, ramp-share}
 use Rattle.theorem_answered.proofs.Settings.{sample, frequency-slow, first-from-zero, second-from-zero, amp-depth, pitch-depth, sensitivity}
@@ -73,7 +74,7 @@ pitch-within lfo t =
     let p = pitch-held lfo t in
     rw (is-true (stateFits lfo) (t .valid .accepted)) (refl, and-i (le (minusDecimal 4 0) (pitchModOf lfo)) (le (pitchModOf lfo) (decimal 4 0)) (held-low (pitchModOf lfo) p) (held-high (pitchModOf lfo) p))
 
-pub amp-within : (lfo : Lfo) → Tame lfo → (ampModAnswer lfo .number ≡ 0) × T (between (decimal 0 0) (decimal 1 0) (ampModAnswer lfo .value))
+pub amp-within : (lfo : Lfo) → Tame lfo → (ampModAnswer lfo .number ≡ 0) × T (unitFits (ampModAnswer lfo .value))
 unfolding ampModAnswer readAnswer
 amp-within lfo t =
     let u = amp-share lfo t in
@@ -99,8 +100,8 @@ unfolding stepAnswer moveAnswer
 step-is lfo state t = rw (is-true (stateFits lfo) (t .valid .accepted), step-accepted lfo t) refl
 
 step-valid : (lfo : Lfo) (state : ℕ) → Tame lfo → Valid (stepAnswer lutSine lfo state (decimal 64 0) .lfo)
-unfolding played answerTo
-step-valid lfo state t = played-valid lutSine (Step (decimal 64 0) ∷ []) lfo state (t .valid)
+unfolding answerTo
+step-valid lfo state t = call-keeps lfo (t .valid) (Step lutSine state (decimal 64 0)) .0
 
 settled-tame : (lfo : Lfo) (state : ℕ) → Tame lfo → Valid (settled lutSine (stepped lfo state (decimal 64 0)) .lfo) → Tame (settled lutSine (stepped lfo state (decimal 64 0)) .lfo)
 settled-tame lfo state t v =
@@ -136,9 +137,9 @@ fits-of true true h = refl
 fits-of true false h = let z : ⊥ = omega arith in absurd z
 fits-of false b h = let z : ⊥ = omega arith in absurd z
 
-modulations-fit : (p : Patch) → readied p .number ≡ 0 → modulationsFit (p .modulations) 7 ≡ true
+modulations-fit : (p : Patch) → readied p .number ≡ 0 → modulationsFit (p .modulations) lfoSensitivity ≡ true
 unfolding identityOf
-modulations-fit p h = fits-of (patchFits p) (modulationsFit (p .modulations) 7) (sym (number-of p) ∙ h)
+modulations-fit p h = fits-of (patchFits p) (modulationsFit (p .modulations) lfoSensitivity) (sym (number-of p) ∙ h)
 
 pub rate-accepted : T (sampleRateFits (decimal 48000 0))
 unfolding sampleRateFits decimal le lt
@@ -152,16 +153,16 @@ fresh-valid : Valid (freshLfo sample (decimal 1 1))
 fresh-valid = subst Valid fresh-is (init-valid (decimal 48000 0) rate-accepted)
 
 module _ (m : ModulationParameters) where
-  set-is : (lfo : Lfo) → Valid lfo → modulationsFit m 7 ≡ true → setAnswer lfo m .lfo ≡ adjusted lfo m
+  set-is : (lfo : Lfo) → Valid lfo → modulationsFit m lfoSensitivity ≡ true → setAnswer lfo m .lfo ≡ adjusted lfo m
   unfolding setAnswer
   set-is lfo v h = rw (is-true (stateFits lfo) (v .accepted), h) refl
 
   -- taken or refused
   pub set-keeps : (lfo : Lfo) → Valid lfo → Valid (setAnswer lfo m .lfo)
-  unfolding played answerTo
-  set-keeps lfo v = played-valid lutSine (Set m ∷ []) lfo 0 v
+  unfolding answerTo
+  set-keeps lfo v = call-keeps lfo v (Set m) .0
 
-  set-valid : (lfo : Lfo) → Valid lfo → modulationsFit m 7 ≡ true → Valid (adjusted lfo m)
+  set-valid : (lfo : Lfo) → Valid lfo → modulationsFit m lfoSensitivity ≡ true → Valid (adjusted lfo m)
   set-valid lfo v h = subst Valid (set-is lfo v h) (set-keeps lfo v)
 
 reset-is : (lfo : Lfo) → Valid lfo → resetAnswer lfo .lfo ≡ restarted lfo
@@ -169,14 +170,14 @@ unfolding resetAnswer
 reset-is lfo v = rw (is-true (stateFits lfo) (v .accepted)) refl
 
 reset-valid : (lfo : Lfo) → Valid lfo → Valid (restarted lfo)
-unfolding played answerTo
-reset-valid lfo v = subst Valid (reset-is lfo v) (played-valid lutSine (Reset ∷ []) lfo 0 v)
+unfolding answerTo
+reset-valid lfo v = subst Valid (reset-is lfo v) (call-keeps lfo v Reset .0)
 
 -- the LFO that an accepted patch sets
 abbrev setTo : ModulationParameters → Lfo
 setTo m = adjusted (freshLfo sample (decimal 1 1)) m
 
-ready-is : (p : Patch) → modulationsFit (p .modulations) 7 ≡ true → readied p .lfo ≡ restarted (setTo (p .modulations))
+ready-is : (p : Patch) → modulationsFit (p .modulations) lfoSensitivity ≡ true → readied p .lfo ≡ restarted (setTo (p .modulations))
 unfolding readied
 ready-is p h =
     let m = p .modulations in
@@ -184,12 +185,12 @@ ready-is p h =
     ∙ ap (λ l. resetAnswer l .lfo) (set-is m (freshLfo sample (decimal 1 1)) fresh-valid h)
     ∙ reset-is (setTo m) (set-valid m (freshLfo sample (decimal 1 1)) fresh-valid h)
 
-pitch-depth-held : (m : ModulationParameters) → modulationsFit m 7 ≡ true → Held 2 1 (asFloat (m .«pitch_mod_depth») ⊗ decimal 1 2 ⊗ pitchModSensitivity (m .«pitch_mod_sensitivity»))
+pitch-depth-held : (m : ModulationParameters) → modulationsFit m lfoSensitivity ≡ true → Held 2 1 (asFloat (m .«pitch_mod_depth») ⊗ decimal 1 2 ⊗ pitchModSensitivity (m .«pitch_mod_sensitivity»))
 pitch-depth-held m h =
     let x = asFloat (m .«pitch_mod_depth») ⊗ decimal 1 2 in
     product-two x (pitchModSensitivity (m .«pitch_mod_sensitivity»)) (share-small x (pitch-depth m h)) (sensitivity m h)
 
-set-tame : (m : ModulationParameters) → modulationsFit m 7 ≡ true → Tame (restarted (setTo m))
+set-tame : (m : ModulationParameters) → modulationsFit m lfoSensitivity ≡ true → Tame (restarted (setTo m))
 set-tame m h =
     let v = reset-valid (setTo m) (set-valid m (freshLfo sample (decimal 1 1)) fresh-valid h) in
     unfold restarted movedTo adjusted freshLfo in

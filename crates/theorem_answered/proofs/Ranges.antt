@@ -14,7 +14,8 @@ use Rattle.numbers.specs.F32.{decimal, minusDecimal}
 use Rattle.numbers.proofs.Views.{or-le}
 use Rattle.numbers.proofs.Casts.{or-i}
 use Rattle.lfo.proofs.Phases.{FromZero, plus, minus-zero, is-from-zero, from-zero-le}
-use Rattle.theorem_answered.proofs.Shares.{Held, held, Share, share, no-share, share-from-zero}
+use Rattle.numbers.proofs.Sizes.{Held, held, Share, share, no-share}
+use Rattle.theorem_answered.proofs.Shares.{share-from-zero}
 
 -- ---- from 0 to 1
 

@@ -16,13 +16,13 @@ use Rattle.units.proofs.Bounds.{Sized, sized, is-sized}
 use Rattle.dx_units_inner.specs.Tables.{lutPitchModSensitivity}
 use Rattle.dx_units_inner.specs.Units.{lfoSteps, lfoFrequency, delaySteps, lfoDelay, pitchModSensitivity}
 use Rattle.patch.specs.declared.ModulationParameters.{ModulationParameters}
-use Rattle.patch.specs.Layout.{lfoNames, lfoField}
+use Rattle.patch.specs.Layout.{lfoNames, lfoField, lfoSensitivity}
 use Rattle.patch.specs.Form.{lfoNumber}
 use Rattle.patch.specs.Packed.{within, modulationsFit}
 use Rattle.lfo.proofs.Phases.{FromZero}
 use Rattle.lfo.proofs.Accepted.{allBelow, at-each, positive-from-zero}
 use Rattle.lfo.proofs.Fields.{rate-fits, sensitivity-fits}
-use Rattle.theorem_answered.proofs.Shares.{Held, held, Share}
+use Rattle.numbers.proofs.Sizes.{Held, held, Share}
 use Rattle.theorem_answered.proofs.Ranges.{is-share}
 
 -- ---- the tests
@@ -80,7 +80,7 @@ second-to-fourth true true false d e h = no h
 second-to-fourth true false c d e h = no h
 second-to-fourth false b c d e h = no h
 
-module _ (m : ModulationParameters) (h : modulationsFit m 7 ≡ true) where
+module _ (m : ModulationParameters) (h : modulationsFit m lfoSensitivity ≡ true) where
   numbers-fit : (m .delay ≤ 99) × (m .«pitch_mod_depth» ≤ 99) × (m .«amp_mod_depth» ≤ 99)
   unfolding modulationsFit within lfoNames lfoField lfoNumber
   numbers-fit =
@@ -89,7 +89,7 @@ module _ (m : ModulationParameters) (h : modulationsFit m 7 ≡ true) where
 
   pub frequency-slow : T (lt (decimal 64 0 ⊗ (lfoFrequency (m .rate) ⊗ sample)) (decimal 1 0))
   unfolding slow
-  frequency-slow = at-each slow 100 all-slow (m .rate) (let z = rate-fits m 7 h in omega arith)
+  frequency-slow = at-each slow 100 all-slow (m .rate) (let z = rate-fits m _ h in omega arith)
 
   delay-grows : T (grows (m .delay))
   delay-grows = at-each grows 100 all-grow (m .delay) (let z = numbers-fit .0 in omega arith)
@@ -112,7 +112,7 @@ module _ (m : ModulationParameters) (h : modulationsFit m 7 ≡ true) where
   unfolding sensitive decimal minusDecimal
   sensitivity =
       let x = pitchModSensitivity (m .«pitch_mod_sensitivity») in
-      let t = at-each sensitive 8 all-sensitive (m .«pitch_mod_sensitivity») (let z = sensitivity-fits m 7 h in omega arith) in
+      let t = at-each sensitive 8 all-sensitive (m .«pitch_mod_sensitivity») (let z = sensitivity-fits m _ h in omega arith) in
       let a = le (minusDecimal 2 0) x in
       let b = le x (decimal 2 0) in
       is-held x (is-sized 1 1 x (is-true a (and-l a b t)) (is-true b (and-r a b t)))

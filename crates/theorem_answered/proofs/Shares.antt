@@ -1,74 +1,27 @@
--- Numbers from 0 to 1, and numbers of a size of at most 1, 2 or a half: what sums and products of such are, each rounding keeping the order.
--- Assumes nothing.
-use mathlib.Core.Path.{_≡_, refl, subst}
-use mathlib.Core.Bool.{Bool, true, false, cond}
+-- Numbers from 0 to 1, and numbers of a size of at most 1, 2 or a half: what more sums and products of such are, each
+-- rounding keeping the order. Assumes nothing.
+use mathlib.Core.Path.{_≡_, refl}
+use mathlib.Core.Bool.{true, false}
 use Prim.Native.Nat.{ℕ, _+_, _-_, _*_, _^_, _≤_, _<_}
 use native.Mathlib.Nat.{mul-le-mul, mul-left-comm}
 use native.Mathlib.Omega.{arith}
 use borrow.Author.Tests.{le-ltb, ltb-true, ltb-false}
-use lib.Dec.{T, ltb}
-use lib.IntN.{ℤ, pos, negsuc}
-use lib.Ieee.{Float, fin, binary32, up, down, lt, le, eq, neg, add, sub, mul, sum, round}
-use lib.Ieee.Bits.{is-true}
+use lib.IntN.{pos, negsuc}
+use lib.Ieee.{Float, fin, binary32, up, down, lt, neg, add, sub, mul, sum, round}
 use lib.Ieee.Fits.{down-pos}
-use lib.Ieee.Order.{round-mono}
 use Rattle.numbers.specs.F32.{_⊕_, _⊖_, _⊗_}
-use Rattle.numbers.proofs.Views.{no, or-le}
-use Rattle.units.proofs.Bounds.{Plus, p-inf, p-fin, Upto, upto, round-plus, round-neg}
+use Rattle.numbers.proofs.Views.{no}
+use Rattle.numbers.proofs.Rounded.{Upto, upto, rounded-upto}
+use Rattle.numbers.proofs.Sizes.{Held, held, signed, rounded-small, sum-bound, Share, share, no-share, rounded-share}
 use Rattle.lfo.proofs.Phases.{FromZero, plus, minus-zero, AtLeastZero, some, product-at-least}
 
 -- ---- of a size of at most n / d
-
-pub data Held (n d : ℕ) : Float → Type 0 where
-  held : (s : Bool) (m : ℕ) (e : ℤ) → m * up e * d ≤ n * down e → Held n d (fin s m e)
-
--- what holds of a rounded fraction and of its negative holds of it with either sign
-either-sign : (P : Float → Type 0) (a c : ℕ) → P (round binary32 false a c) → P (neg (round binary32 false a c)) → (s : Bool) → P (round binary32 s a c)
-either-sign P a c p q false = p
-either-sign P a c p q true = rw (round-neg a c) q
-
--- below a float that is not negative
-pub upto-at : (n : ℕ) (d : ℤ) (x : Float) → Plus x → le x (fin false n d) ≡ true → Upto (n * up d) (down d) x
-unfolding le lt eq
-upto-at n d _ p-inf h = no h
-upto-at n d _ (p-fin m e) h = upto m e (or-le (m * up e * down d) (n * up d * down e) true h)
-
--- a fraction of at most n * 2 ^ d, rounded, where that is a float
-pub rounded-upto : (n : ℕ) (d : ℤ) (a c : ℕ) → round binary32 false (n * up d) (down d) ≡ fin false n d → 0 < c → a * down d ≤ n * up d * c → Upto (n * up d) (down d) (round binary32 false a c)
-rounded-upto n d a c e p h =
-    upto-at n d (round binary32 false a c) (round-plus a c)
-    (is-true _ (subst (λ (x : Float). T (le (round binary32 false a c) x)) e (round-mono binary32 a c (n * up d) (down d) p (down-pos d) h)))
-
-upto-one : (a c : ℕ) → 0 < c → a ≤ c → Upto 1 1 (round binary32 false a c)
-upto-one a c p h = rounded-upto 1 (pos 0) a c (unfold round in refl) p (omega arith)
 
 upto-half : (a c : ℕ) → 0 < c → a * 2 ≤ c → Upto 1 2 (round binary32 false a c)
 upto-half a c p h = rounded-upto 1 (negsuc 0) a c (unfold round in refl) p (omega arith)
 
 upto-two : (a c : ℕ) → 0 < c → a ≤ 2 * c → Upto 2 1 (round binary32 false a c)
 upto-two a c p h = rounded-upto 1 (pos 1) a c (unfold round in refl) p (omega arith)
-
-either-held : (n d : ℕ) (x : Float) → Upto n d x → Held n d x × Held n d (neg x)
-unfolding neg
-either-held n d _ (upto m e h) = (held false m e h, held true m e h)
-
-pub signed : (n d a c : ℕ) → Upto n d (round binary32 false a c) → (s : Bool) → Held n d (round binary32 s a c)
-signed n d a c u = let x = either-held n d (round binary32 false a c) u in either-sign (Held n d) a c (x .0) (x .1)
-
-pub rounded-small : (s : Bool) (a c : ℕ) → 0 < c → a ≤ c → Held 1 1 (round binary32 s a c)
-rounded-small s a c p h = signed 1 1 a c (upto-one a c p h) s
-
--- a sum of two that are at most 1 is, if it is where their signs are the same
-unlike-small : (a b c : ℕ) (s u : Bool) → 0 < c → a ≤ c → b ≤ c → (t : Bool) → Held 1 1 (cond t (round binary32 s (b - a) c) (round binary32 u (a - b) c))
-unlike-small a b c s u p h k true = rounded-small s (b - a) c p (omega arith)
-unlike-small a b c s u p h k false = rounded-small u (a - b) c p (omega arith)
-
-pub sum-bound : (s : Bool) (a : ℕ) (t : Bool) (b c : ℕ) → 0 < c → a ≤ c → b ≤ c → (s ≡ t → a + b ≤ c) → Held 1 1 (sum binary32 s a t b c)
-unfolding sum
-sum-bound false a false b c p h k l = rounded-small false (a + b) c p (l refl)
-sum-bound true a true b c p h k l = rounded-small true (a + b) c p (l refl)
-sum-bound false a true b c p h k l = unlike-small a b c true false p h k (ltb a b)
-sum-bound true a false b c p h k l = unlike-small a b c false (ltb b a) p h k (ltb a b)
 
 pub product-small : (x y : Float) → Held 1 1 x → Held 1 1 y → Held 1 1 (x ⊗ y)
 unfolding mul
@@ -88,10 +41,6 @@ product-two _ _ (held s m e h) (held t n d k) =
 
 -- ---- from 0 to 1
 
-pub data Share : Float → Type 0 where
-  share : (m : ℕ) (e : ℤ) → m * up e ≤ down e → Share (fin false m e)
-  no-share : (e : ℤ) → Share (fin true 0 e)
-
 pub share-small : (x : Float) → Share x → Held 1 1 x
 share-small _ (share m e h) = held false m e (omega arith)
 share-small _ (no-share e) = held true 0 e (let p = down-pos e in omega arith)
@@ -99,12 +48,6 @@ share-small _ (no-share e) = held true 0 e (let p = down-pos e in omega arith)
 pub share-from-zero : (x : Float) → Share x → FromZero x
 share-from-zero _ (share m e h) = plus m e
 share-from-zero _ (no-share e) = minus-zero e
-
-upto-share : (x : Float) → Upto 1 1 x → Share x
-upto-share _ (upto m e h) = share m e (omega arith)
-
-pub rounded-share : (n d : ℕ) → 0 < d → n ≤ d → Share (round binary32 false n d)
-rounded-share n d p h = upto-share (round binary32 false n d) (upto-one n d p h)
 
 both-share : (x : Float) → Held 1 1 x → FromZero x → Share x
 both-share _ (held s m e h) (plus _ _) = share m e (omega arith)

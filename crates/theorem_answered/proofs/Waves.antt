@@ -1,22 +1,19 @@
 -- The six waves of an LFO are from 0 to 1 at every phase from 0 up to 1, and so is a draw. Assumes nothing.
 use mathlib.Core.Path.{_≡_, refl}
 use mathlib.Core.Bool.{Bool, true, false, cond}
-use Prim.Native.Nat.{ℕ, _*_, _^_, _<_}
+use Prim.Native.Nat.{ℕ}
 use native.Mathlib.Omega.{arith}
 use lib.IntN.{pos}
-use lib.Ieee.{Float, binary32, up, down, lt, div, round, ofInt}
-use lib.Ieee.Bits.{is-true}
-use lib.Ieee.Fits.{down-pos}
-use lib.Ieee.Order.{round-mono}
-use Rattle.numbers.specs.F32.{_⊖_, _⊗_, _⊘_, decimal, asFloat}
-use Rattle.units.proofs.Bounds.{Upto, upto, upto-whole, round-plus}
+use lib.Ieee.{Float, lt}
+use Rattle.numbers.specs.F32.{_⊖_, _⊗_, decimal}
 use Rattle.random.specs.Random.{nextNumber, draw}
 use Rattle.sine.specs.Table.{lutSine}
 use Rattle.lfo_inner.specs.declared.Waveform.{Waveform}
 use Rattle.lfo_inner.specs.declared.Waveform.the-variants.{Triangle, RampDown, RampUp, Square, Sine, SAndH}
 use Rattle.lfo_inner.specs.Lfo.{triangleWave, squareWave, sineWave, waveOf, drawnIf}
 use Rattle.lfo.proofs.Phases.{Part}
-use Rattle.theorem_answered.proofs.Shares.{Share, share, rounded-share, one-less, twice-past-half, twice-to-half, half-lifted}
+use Rattle.numbers.proofs.Sizes.{Share, share, word-share}
+use Rattle.theorem_answered.proofs.Shares.{one-less, twice-past-half, twice-to-half, half-lifted}
 use Rattle.theorem_answered.proofs.Turns.{part-share, sine-small}
 
 pub zero-share : Share (decimal 0 0)
@@ -64,17 +61,9 @@ wave-share SAndH phase last p q = q
 
 -- ---- the draw
 
-over-all : (x : Float) → Upto (1 * 2 ^ 32) 1 x → Share (x ⊘ decimal 4294967296 0)
-unfolding div decimal
-over-all _ (upto m e h) = let p = down-pos e in rounded-share (m * up e * 1) (1 * 2 ^ 32 * down e) (omega arith) (omega arith)
-
-word-upto : (n : ℕ) → n < 2 ^ 32 → Upto (1 * 2 ^ 32) 1 (asFloat n)
-unfolding ofInt round
-word-upto n h = upto-whole 1 32 (round binary32 false n 1) (round-plus n 1) (is-true _ (round-mono binary32 n 1 (2 ^ 32) 1 (omega arith) (omega arith) (omega arith)))
-
 draw-share : (state : ℕ) → Share (draw state .value)
 unfolding draw nextNumber
-draw-share state = over-all (asFloat (nextNumber state)) (word-upto (nextNumber state) (omega arith))
+draw-share state = word-share (nextNumber state) (omega arith)
 
 pub drawn-share : (b : Bool) (last : Float) (state : ℕ) → Share last → Share (drawnIf b last state .value)
 unfolding drawnIf

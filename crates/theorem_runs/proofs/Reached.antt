@@ -1,100 +1,116 @@
--- Number 9 of a run: from a state that calls have reached no call is answered with 9, and every call leaves such a state. Assumes nothing.
-use mathlib.Core.Path.{_≡_, refl, sym, subst}
-use mathlib.Core.Bool.{Bool, true, false, cond, not}
-use mathlib.Core.List.{List, [], _∷_}
+-- Number 9 of a run: from a state that calls have reached no call is answered with 9, and every call leaves such a
+-- state, as long as no refused start is stored. Assumes nothing.
+use mathlib.Core.Path.{_≡_, refl}
+use mathlib.Core.Bool.{Bool, true, false, cond, not, _||_}
+use mathlib.Core.List.{List, [], _∷_, _++_}
 use Prim.Native.Nat.{ℕ}
 use borrow.Author.Tests.{eqb-true}
-use native.Mathlib.Omega.{arith}
 use lib.Dec.{T, eqb}
 use lib.Ieee.{Float}
-use lib.Ieee.Fits.{and-i, and-l}
-use Rattle.sine.specs.Table.{lutSine}
-use Rattle.sine.specs.Pairs.{sinePairs}
+use lib.Ieee.Fits.{and-i, and-l, and-r}
 use Rattle.units.specs.Tables.{lutPitchRatioHigh, lutPitchRatioLow}
 use Rattle.algorithms.specs.Plan.{counted}
-use Rattle.lfo_inner.specs.declared.Lfo.{Lfo}
 use Rattle.lfo.specs.Answers as lfoAnswers
-use Rattle.lfo.specs.Played as lfo
-use Rattle.lfo.specs.Played.{Valid}
-use Rattle.lfo.proofs.Sequences.{init-valid, played-valid, none-is-nine}
+use Rattle.lfo.specs.Calls.{Valid}
+use Rattle.lfo.proofs.Calls as lfo
 use Rattle.patch_limits.specs.Ranges.{sampleRateFits}
-use Rattle.voice.specs.Answers.{initAnswer}
-use Rattle.theorem_runs.specs.Run.{Call, Start, SetPatch, TakePatch, Render, StartLfo, OfLfo, State, withVoice, withLfo, stepOf, run, ending}
-use Rattle.theorem_runs.specs.Good.{Good, fresh, noneIsNine}
-use Rattle.theorem_runs.proofs.Voices.{NoNine, init-fits, init-keeps, set-patch-keeps, take-patch-keeps, render-keeps}
+use Rattle.voice.specs.declared.Voice.{Voice}
+use Rattle.voice.specs.Answers.{stateFits, initAnswer}
+use Rattle.voice.proofs.Kept.{Kept, init-fits, init-keeps, set-patch-keeps, take-patch-keeps, patch-no-nine}
+use Rattle.voice_render.proofs.Kept.{setup-keeps, render-keeps}
+use Rattle.theorem_runs.specs.VoiceCalls as voice
+use Rattle.theorem_runs.specs.Run.{Call, Start, OfVoice, StartLfo, OfLfo, State, Step, stored, stepOf}
+use Rattle.theorem_runs.specs.Run.{run, ending}
+use Rattle.theorem_runs.specs.Good.{Good, fresh, each, throughout, careful, isNine, notNine}
 
--- ---- the LFO's calls
+-- ---- a run, from what holds of a call
 
-call-valid : (lut : List Float) (call : lfo.Call) (l : Lfo) (random : ℕ) → Valid l → Valid (lfo.lfoAfter l (lfo.answerTo lut call l random))
-unfolding lfo.played
-call-valid lut call l random v = played-valid lut (call ∷ []) l random v
+-- what a state has, each call of a kind keeps, and passes a test
+module _ (Has : State → Type 0) (kind : Call → Bool) (test : Call → Step → Bool)
+    (keeps : (s : State) → Has s → (call : Call) → T (kind call)
+    → Has (stepOf call s .state) × T (test call (stepOf call s))) where
+  pub ending-has : (calls : List Call) (s : State) → Has s → T (each kind calls) → Has (ending calls s)
+  unfolding ending each
+  ending-has [] s h t = h
+  ending-has (call ∷ calls) s h t =
+      ending-has calls (stepOf call s .state) (keeps s h call (and-l (kind call) (each kind calls) t) .0)
+      (and-r (kind call) (each kind calls) t)
 
-call-no-nine : (lut : List Float) (call : lfo.Call) (l : Lfo) (random : ℕ) → Valid l → NoNine (lfo.numberOf (lfo.answerTo lut call l random))
-unfolding lfo.played lfo.noneIsNine
-call-no-nine lut call l random v = and-l (not (eqb (lfo.numberOf (lfo.answerTo lut call l random)) 9)) true (none-is-nine lut (call ∷ []) l random v)
+  pub run-passes : (calls : List Call) (s : State) → Has s → T (each kind calls)
+      → T (throughout test calls (run calls s))
+  unfolding run each throughout
+  run-passes [] s h t = tt
+  run-passes (call ∷ calls) s h t =
+      let here = keeps s h call (and-l (kind call) (each kind calls) t) in
+      and-i (test call (stepOf call s)) (throughout test calls (run calls (stepOf call s .state))) (here .1)
+      (run-passes calls (stepOf call s .state) (here .0) (and-r (kind call) (each kind calls) t))
 
-lfo-init-keeps : (rate : Float) → NoNine (lfoAnswers.initAnswer rate .number) × (lfoAnswers.initAnswer rate .number ≡ 0 → Valid (lfoAnswers.initAnswer rate .lfo))
-unfolding lfoAnswers.initAnswer
-lfo-init-keeps rate = go (sampleRateFits rate) refl
-  where
-    go : (b : Bool) → sampleRateFits rate ≡ b → NoNine (lfoAnswers.initAnswer rate .number) × (lfoAnswers.initAnswer rate .number ≡ 0 → Valid (lfoAnswers.initAnswer rate .lfo))
-    go true e = (rw e tt, λ z. init-valid rate (subst T (sym e) tt))
-    go false e = (rw e tt, λ z. absurd (let y = rw e at z in omega arith))
+-- a run in two parts: the second starts where the first ends
+pub run-joined : (first second : List Call) (s : State)
+    → run (first ++ second) s ≡ run first s ++ run second (ending first s)
+unfolding run ending
+run-joined [] second s = refl
+run-joined (call ∷ first) second s = rw (run-joined first second (stepOf call s .state)) refl
 
 -- ---- a call
 
--- a start that is refused keeps the state
-if-started : (number : ℕ) (s t : State) → Good s → (number ≡ 0 → Good t) → Good (cond (eqb number 0) t s)
-if-started number s t g h = go (eqb number 0) refl
+-- a start leaves what it hands out, or the old, unless a refusal is stored
+stored-has : {A : Type 0} (Has : A → Type 0) (stores : Bool) (number : ℕ) (new old : A) → Has old
+    → (number ≡ 0 → Has new) → T (not stores || eqb number 0) → Has (stored stores number new old)
+stored-has Has stores number new old h f = go stores (eqb number 0) refl
   where
-    go : (b : Bool) → eqb number 0 ≡ b → Good (cond b t s)
-    go true e = h (eqb-true number 0 e)
-    go false e = g
+    go : (b c : Bool) → eqb number 0 ≡ c → T (not b || c) → Has (cond (b || c) new old)
+    go true true e t = f (eqb-true number 0 e)
+    go true false e t = absurd t
+    go false true e t = f (eqb-true number 0 e)
+    go false false e t = h
 
-module _ (s : State) (g : Good s) where
-  pub step-keeps-good : (call : Call) → Good (stepOf call s .state)
-  unfolding stepOf
-  step-keeps-good (Start operators rate) =
-      if-started (initAnswer operators rate .number) s (withVoice s (initAnswer operators rate .voice)) g
-      (λ e. record { voice = init-keeps operators rate .1 e; lfo = g .lfo })
-  step-keeps-good (SetPatch p table) = record { voice = set-patch-keeps (s .voice) (g .voice) p table .0; lfo = g .lfo }
-  step-keeps-good TakePatch = record { voice = take-patch-keeps (s .voice) (g .voice) .0; lfo = g .lfo }
-  step-keeps-good (Render p block) = record { voice = render-keeps (s .voice) (g .voice) sinePairs lutPitchRatioHigh lutPitchRatioLow p block .0; lfo = g .lfo }
-  step-keeps-good (StartLfo rate) =
-      if-started (lfoAnswers.initAnswer rate .number) s (withLfo s (lfoAnswers.initAnswer rate .lfo) (s .random)) g
-      (λ e. record { voice = g .voice; lfo = lfo-init-keeps rate .1 e })
-  step-keeps-good (OfLfo call) = record { voice = g .voice; lfo = call-valid lutSine call (s .lfo) (s .random) (g .lfo) }
+voice-keeps : (v : Voice) → T (stateFits v) → (call : voice.Call)
+    → Kept (voice.voiceAfter v (voice.answerTo call v)) (voice.numberOf (voice.answerTo call v))
+unfolding voice.answerTo
+voice-keeps v t (voice.SetPatch p table) = set-patch-keeps v t p table
+voice-keeps v t voice.TakePatch = take-patch-keeps v t
+voice-keeps v t voice.GetPatch = (t, patch-no-nine v t)
+voice-keeps v t voice.Setup = setup-keeps v t lutPitchRatioHigh lutPitchRatioLow
+voice-keeps v t (voice.Render pairs high low p block) = render-keeps v t pairs high low p block
 
-  pub step-never-9 : (call : Call) → NoNine (stepOf call s .number)
-  unfolding stepOf
-  step-never-9 (Start operators rate) = init-keeps operators rate .0
-  step-never-9 (SetPatch p table) = set-patch-keeps (s .voice) (g .voice) p table .1
-  step-never-9 TakePatch = take-patch-keeps (s .voice) (g .voice) .1
-  step-never-9 (Render p block) = render-keeps (s .voice) (g .voice) sinePairs lutPitchRatioHigh lutPitchRatioLow p block .1
-  step-never-9 (StartLfo rate) = lfo-init-keeps rate .0
-  step-never-9 (OfLfo call) = call-no-nine lutSine call (s .lfo) (s .random) (g .lfo)
+pub step-keeps : (s : State) → Good s → (call : Call) → T (careful call)
+    → Good (stepOf call s .state) × T (notNine call (stepOf call s))
+unfolding stepOf careful notNine isNine
+step-keeps s g (Start stores operators rate) t =
+    let a = initAnswer operators rate in
+    let k = init-keeps operators rate in
+    let v = stored-has (λ v. T (stateFits v)) stores (a .number) (a .voice) (s .voice) (g .voice) (k .1) t in
+    (record { voice = v; lfo = g .lfo }, k .0)
+step-keeps s g (OfVoice call) t =
+    let k = voice-keeps (s .voice) (g .voice) call in
+    (record { voice = k .0; lfo = g .lfo }, k .1)
+step-keeps s g (StartLfo stores rate) t =
+    let a = lfoAnswers.initAnswer rate in
+    let k = lfo.init-keeps rate in
+    let l = stored-has Valid stores (a .number) (a .lfo) (s .lfo) (g .lfo) (k .1) t in
+    (record { voice = g .voice; lfo = l }, k .0)
+step-keeps s g (OfLfo call) t =
+    let k = lfo.call-keeps (s .lfo) (g .lfo) call in
+    (record { voice = g .voice; lfo = k .0 }, k .1)
 
 -- ---- a run
 
-pub ending-good : (calls : List Call) (s : State) → Good s → Good (ending calls s)
-unfolding ending
-ending-good [] s g = g
-ending-good (call ∷ calls) s g = ending-good calls (stepOf call s .state) (step-keeps-good s g call)
+pub ending-good : (calls : List Call) (s : State) → Good s → T (each careful calls) → Good (ending calls s)
+ending-good = ending-has Good careful notNine step-keeps
 
-pub never-9 : (calls : List Call) (s : State) → Good s → T (noneIsNine (run calls s))
-unfolding run noneIsNine
-never-9 [] s g = tt
-never-9 (call ∷ calls) s g =
-    and-i (not (eqb (stepOf call s .number) 9)) (noneIsNine (run calls (stepOf call s .state))) (step-never-9 s g call)
-    (never-9 calls (stepOf call s .state) (step-keeps-good s g call))
+pub never-9 : (calls : List Call) (s : State) → Good s → T (each careful calls)
+    → T (throughout notNine calls (run calls s))
+never-9 = run-passes Good careful notNine step-keeps
 
--- a voice and an LFO that were started with sample rates that fit
-pub fresh-good : (operators : ℕ) (rate lfoRate : Float) (random : ℕ) → T (counted operators) → T (sampleRateFits rate) → T (sampleRateFits lfoRate)
-    → Good (fresh operators rate lfoRate random)
-unfolding fresh
-fresh-good operators rate lfoRate random t u w = record { voice = init-fits operators rate t u; lfo = init-valid lfoRate w }
+module _ (operators : ℕ) (rate lfoRate : Float) (t : T (counted operators)) (u : T (sampleRateFits rate))
+    (w : T (sampleRateFits lfoRate)) where
+  -- a voice and an LFO that were started with sample rates that fit
+  pub fresh-good : Good (fresh operators rate lfoRate)
+  unfolding fresh
+  fresh-good = record { voice = init-fits operators rate t u; lfo = lfo.init-valid lfoRate w }
 
--- from there on no run, accepted or refused, meets a 9
-pub fresh-never-9 : (operators : ℕ) (rate lfoRate : Float) (random : ℕ) → T (counted operators) → T (sampleRateFits rate) → T (sampleRateFits lfoRate)
-    → (calls : List Call) → T (noneIsNine (run calls (fresh operators rate lfoRate random)))
-fresh-never-9 operators rate lfoRate random t u w calls = never-9 calls (fresh operators rate lfoRate random) (fresh-good operators rate lfoRate random t u w)
+  -- from there on no run, accepted or refused, meets a 9
+  pub fresh-never-9 : (calls : List Call) → T (each careful calls)
+      → T (throughout notNine calls (run calls (fresh operators rate lfoRate)))
+  fresh-never-9 calls = never-9 calls (fresh operators rate lfoRate) fresh-good

@@ -17,8 +17,9 @@ use Rattle.units.specs.Ratio.{ratioIn, lowered, raised, ratioOf}
 use Rattle.units.specs.Ratio as ratio
 use Rattle.units.specs.Tables.{lutPitchRatioHigh, lutPitchRatioLow}
 use Rattle.dx_units_power.specs.Pow.{wholeBelow, mantissaBits, pow2Fast}
+use Rattle.dx_units_step.specs.Step.{stepFor}
 use Rattle.dx_units_inner.specs.Tables.{lutCoarse, lutAmpModSensitivity, lutCubeRoot}
-use Rattle.dx_units_inner.specs.Units.{operatorLevel, pitchEnvelopeLevel, operatorEnvelopeIncrement, pitchEnvelopeIncrement, normalizedVelocity, rateScaling, ampModSensitivity, sideScaling, keyboardScaling, coarseSemitones, baseSemitones, fineFactor, frequencyRatio, stepFor}
+use Rattle.dx_units_inner.specs.Units.{operatorLevel, pitchEnvelopeLevel, operatorEnvelopeIncrement, pitchEnvelopeIncrement, normalizedVelocity, rateScaling, ampModSensitivity, sideScaling, keyboardScaling, coarseSemitones, baseSemitones, fineFactor, frequencyRatio}
 use Rattle.dx_units_inner.specs.Units as conversions
 use Rattle.patch.specs.Form.{scalingWith, modulationsWith, envelopeNumber, scalingNumber, operatorNumber, lfoNumber, operatorAt, numberOf}
 use Rattle.patch.specs.Layout.{later, envelopeField, scalingField, operatorField, lfoField, fieldOf, stages, envelopeNames, scalingNames, operatorNames, lfoNames, letters, sharedNames, layout}
@@ -49,10 +50,11 @@ use Rattle.voice.specs.Voice.{voiceWith, freshVoice, withPatch}
 use Rattle.voice_render.specs.Answers.{blockFits, parametersFit, renderAnswer}
 use Rattle.voice_render.specs.Block.{noteOn, struck, begun, entering, after, levelsFor, played}
 use Rattle.voice_render.specs.Block as block
+use Rattle.voice_render.specs.Heard.{output}
 use Rattle.voice_render.specs.Setup.{withSetup, setUp}
-use Rattle.theorem_runs.specs.Alike.{output}
+use Rattle.theorem_runs.specs.VoiceCalls.{answerTo}
 use Rattle.theorem_runs.specs.Run.{stepOf, run}
-use Rattle.theorem_runs.specs.Example.{patchOf, callsFor, runFor, numbersOf, lastOutput}
+use Rattle.theorem_runs.specs.Example.{patchOf, twoSamples, callsFor, runFor, numbersOf, lastOutput}
 use Rattle.theorem_runs.specs.Good.{fresh}
 
 -- all four calls are accepted; the first sample is 0, as amplitudes ramp up from 0, and the second goes by the patch's level: its bits are 3f4516ad
@@ -92,8 +94,8 @@ unfolding neg add sub mul div lt eq le ne isNan ofInt toUnsigned toSigned ofBits
     noteOn struck begun entering after levelsFor played block.sounded
     voiceWith freshVoice withPatch withSetup setUp
     output
-    stepOf run
-    patchOf callsFor runFor numbersOf lastOutput
+    answerTo stepOf run
+    patchOf twoSamples callsFor runFor numbersOf lastOutput
     fresh
 runs-sound = (refl, refl, refl)
 

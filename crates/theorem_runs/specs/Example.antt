@@ -5,14 +5,17 @@ use mathlib.Core.Bool.{true, false}
 use mathlib.Core.List.{List, [], _∷_}
 use lib.Ieee.{Float}
 use Rattle.numbers.specs.F32.{decimal}
+use Rattle.sine.specs.Pairs.{sinePairs}
+use Rattle.units.specs.Tables.{lutPitchRatioHigh, lutPitchRatioLow}
 use Rattle.patch.specs.declared.Envelope.{Envelope}
 use Rattle.patch.specs.declared.Operator.{Operator}
 use Rattle.patch.specs.declared.Patch.{Patch}
 use Rattle.patch.specs.Form.{scalingWith, modulationsWith}
 use Rattle.voice.specs.Voice.{sixOf}
 use Rattle.voice_render.specs.declared.VoiceParameters.{VoiceParameters}
-use Rattle.theorem_runs.specs.Run.{Call, Start, SetPatch, Render, Step, run}
-use Rattle.theorem_runs.specs.Alike.{output}
+use Rattle.voice_render.specs.Heard.{output}
+use Rattle.theorem_runs.specs.VoiceCalls as voice
+use Rattle.theorem_runs.specs.Run.{Call, Start, OfVoice, Answer, FromVoice, FromLfo, numberOf, Step, run}
 use Rattle.theorem_runs.specs.Good.{fresh}
 
 -- the fastest envelope at one level
@@ -65,26 +68,39 @@ keyDown = record {
 abbrev silence : List Float
 silence = let o = decimal 0 0 in o ∷ o ∷ o ∷ o ∷ o ∷ o ∷ o ∷ o ∷ []
 
+-- a block of two samples, by the built-in tables
+unfoldable pub twoSamples : Call
+twoSamples = OfVoice (voice.Render sinePairs lutPitchRatioHigh lutPitchRatioLow keyDown silence)
+
 -- the calls for a patch whose operators have a level
 unfoldable pub callsFor : ℕ → List Call
 callsFor level =
-    Start 4 (decimal 48000 0)
-    ∷ SetPatch (patchOf level) (0x71 ∷ 0x14 ∷ 0x01 ∷ 0x14 ∷ [])
-    ∷ Render keyDown silence
-    ∷ Render keyDown silence
+    Start false 4 (decimal 48000 0)
+    ∷ OfVoice (voice.SetPatch (patchOf level) (0x71 ∷ 0x14 ∷ 0x01 ∷ 0x14 ∷ []))
+    ∷ twoSamples
+    ∷ twoSamples
     ∷ []
 
 -- the run, from a fresh state
 unfoldable pub runFor : ℕ → List Step
-runFor level = run (callsFor level) (fresh 4 (decimal 48000 0) (decimal 48000 0) 0)
+runFor level = run (callsFor level) (fresh 4 (decimal 48000 0) (decimal 48000 0))
 
 -- the numbers of a run
 unfoldable pub numbersOf : List Step → List ℕ
 numbersOf [] = []
-numbersOf (t ∷ ts) = t .number ∷ numbersOf ts
+numbersOf (t ∷ ts) = numberOf (t .answer) ∷ numbersOf ts
+
+-- the output of a call: nothing where it is no block
+abbrev pub outputOf : Answer → List Float
+outputOf (FromVoice (voice.Prepares a)) = []
+outputOf (FromVoice (voice.Loads a)) = []
+outputOf (FromVoice (voice.Tells a)) = []
+outputOf (FromVoice (voice.Readies a)) = []
+outputOf (FromVoice (voice.Renders a)) = output (a .block)
+outputOf (FromLfo a) = []
 
 -- the output of a run's last call
 unfoldable pub lastOutput : List Step → List Float
 lastOutput [] = []
-lastOutput (t ∷ []) = output (t .block)
+lastOutput (t ∷ []) = outputOf (t .answer)
 lastOutput (t ∷ u ∷ ts) = lastOutput (u ∷ ts)

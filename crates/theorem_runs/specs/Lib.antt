@@ -1,4 +1,5 @@
 -- the definitions of whole runs, and what demand 3 compares
+pub mod VoiceCalls
 pub mod Run
 pub mod Alike
 pub mod Good

@@ -1,14 +1,14 @@
 -- Bounds on what the ratio computes: each rounding keeps the order, so that a pitch stays from 8 to 248, and 256 times
 -- its part past the whole number below 256. Assumes nothing.
 use mathlib.Core.Path.{_≡_, refl, sym, _∙_, ap, subst}
-use mathlib.Core.Bool.{Bool, true, false, cond}
+use mathlib.Core.Bool.{Bool, true, false}
 use mathlib.Core.List.{List}
-use Prim.Native.Nat.{ℕ, zero, suc, _+_, _-_, _*_, _/_, _%_, _^_, _≤_, _<_, compare}
+use Prim.Native.Nat.{ℕ, suc, _+_, _-_, _*_, _/_, _%_, _^_, _≤_, _<_}
 use native.Mathlib.Nat.{mul-one, mul-assoc, mul-right-comm, add-mul, mul-le-mul, mul-le-mul-right, div-lt-iff-lt-mul}
 use native.Mathlib.Nat.{div-add-mod', mod-lt}
 use native.Mathlib.Omega.{arith}
 use borrow.Author.Tests.{lt-ltb, le-ltb, leb-true, leb-false}
-use lib.Dec.{T, ltb, leb}
+use lib.Dec.{T, leb}
 use lib.IntN.{ℤ, pos, negsuc}
 use lib.ListN.{getD}
 use lib.Pow.{pow-mono}
@@ -17,78 +17,15 @@ use lib.Ieee.Exact.{HasValue}
 use lib.Ieee.Back.{round-whole}
 use lib.Ieee.Order.{round-mono}
 use lib.Ieee.Fits.{down-pos, round-fits, and-l, and-r}
-use lib.Ieee.{Float, nan, inf, fin, binary32, up, down, lt, le, eq, fits, neg, add, sub, mul, sum, round, units, odd}
-use lib.Ieee.{nearest, size, prec, low, emax, ofInt, toUnsigned}
+use lib.Ieee.{Float, nan, inf, fin, binary32, up, down, lt, le, eq, fits, neg, add, sub, mul, sum, round}
+use lib.Ieee.{ofInt, toUnsigned}
 use Rattle.numbers.proofs.Views.{no, on, or-le, or-ge}
 use Rattle.numbers.proofs.Casts.{digits-lt}
+use Rattle.numbers.proofs.Rounded.{Plus, Upto, upto, upto-at, round-plus}
 use Rattle.numbers.specs.F32.{_⊕_, _⊖_, _⊗_, decimal, minusDecimal, asFloat}
 use Rattle.units.specs.Ratio.{within, pastWhole, ratioIn}
 
--- ---- a rounding with no sign is an infinity or a number with no sign
-
-pub data Plus : Float → Type 0 where
-  p-inf : Plus (inf false)
-  p-fin : (m : ℕ) (e : ℤ) → Plus (fin false m e)
-
-odd-plus : (d q k l : ℕ) → Plus (odd d false q k l)
-unfolding odd
-odd-plus d zero k l = p-fin zero (pos zero)
-odd-plus d (suc q) k l = p-fin _ _
-
-units-plus : (q k : ℕ) → Plus (units binary32 false q k)
-unfolding units
-units-plus q k = go (ltb (q * 2 ^ k) (2 ^ (low binary32 + suc (emax binary32))))
-  where
-    go : (b : Bool) → Plus (cond b (odd (suc (prec binary32)) false q k (low binary32)) (inf false))
-    go true = odd-plus (suc (prec binary32)) q k (low binary32)
-    go false = p-inf
-
-pub round-plus : (n d : ℕ) → Plus (round binary32 false n d)
-unfolding round
-round-plus n d =
-    let N = n * 2 ^ low binary32 in
-    let k = size (N / d) - prec binary32 in
-    let u = d * 2 ^ k in
-    units-plus (nearest (N / u) (compare (N % u * 2) u)) k
-
--- a rounding with a sign is the other's negative
-odd-neg : (d q k l : ℕ) → odd d true q k l ≡ neg (odd d false q k l)
-unfolding odd neg
-odd-neg d zero k l = refl
-odd-neg d (suc q) k l = refl
-
-units-neg : (q k : ℕ) → units binary32 true q k ≡ neg (units binary32 false q k)
-unfolding units neg
-units-neg q k = go (ltb (q * 2 ^ k) (2 ^ (low binary32 + suc (emax binary32))))
-  where
-    go : (b : Bool) → cond b (odd (suc (prec binary32)) true q k (low binary32)) (inf true) ≡ neg (cond b (odd (suc (prec binary32)) false q k (low binary32)) (inf false))
-    go true = odd-neg (suc (prec binary32)) q k (low binary32)
-    go false = refl
-
-pub round-neg : (n d : ℕ) → round binary32 true n d ≡ neg (round binary32 false n d)
-unfolding round
-round-neg n d =
-    let N = n * 2 ^ low binary32 in
-    let k = size (N / d) - prec binary32 in
-    let u = d * 2 ^ k in
-    units-neg (nearest (N / u) (compare (N % u * 2) u)) k
-
 -- ---- between -c and c, c a whole number M * 2 ^ j
-
-pub data Upto (n d : ℕ) : Float → Type 0 where
-  upto : (m : ℕ) (e : ℤ) → m * up e * d ≤ n * down e → Upto n d (fin false m e)
-
--- y ≤ M * 2 ^ j
-pub upto-whole : (M j : ℕ) (y : Float) → Plus y → le y (fin false M (pos j)) ≡ true → Upto (M * 2 ^ j) 1 y
-unfolding le lt eq
-upto-whole M j _ p-inf h = no h
-upto-whole M j _ (p-fin m e) h = upto m e (or-le (m * up e * 1) (M * 2 ^ j * down e) true h)
-
--- y ≤ M / 2 ^ (k + 1)
-pub upto-part : (M k : ℕ) (y : Float) → Plus y → le y (fin false M (negsuc k)) ≡ true → Upto M (2 ^ suc k) y
-unfolding le lt eq
-upto-part M k _ p-inf h = no h
-upto-part M k _ (p-fin m e) h = upto m e (subst (λ (x : ℕ). m * up e * 2 ^ suc k ≤ x * down e) (mul-one M) (or-le (m * up e * 2 ^ suc k) (M * 1 * down e) true h))
 
 pub data Sized (c : ℕ) : Float → Type 0 where
   sized : (s : Bool) (m : ℕ) (e : ℤ) → m * up e ≤ c * down e → Sized c (fin s m e)
@@ -134,7 +71,7 @@ is-pitch _ (ratio n d p l h) =
     let y = round binary32 false n d in
     pitch-of y (round-fits binary32 false n d) (round-plus n d)
     (is-true _ (round-mono binary32 8 1 n d (omega arith) p (omega arith)))
-    (upto-whole 31 3 y (round-plus n d) (is-true _ (round-mono binary32 n d 248 1 p (omega arith) (omega arith))))
+    (upto-at 31 (pos 3) y (round-plus n d) (is-true _ (round-mono binary32 n d 248 1 p (omega arith) (omega arith))))
 
 -- its whole part is an index of 256 entries
 pub whole-of : (m : ℕ) (e : ℤ) → m * up e ≤ 248 * down e
@@ -207,14 +144,14 @@ part-upto : (y : Float) (c d : ℕ) → 0 < d → c * 2 ^ 20 ≤ 1048575 * d →
 unfolding round
 part-upto y c d p h e =
     subst (Upto 1048575 (2 ^ 20)) (sym e)
-    (upto-part 1048575 19 (round binary32 false c d) (round-plus c d) (is-true _ (round-mono binary32 c d 1048575 (2 ^ 20) p (omega arith) h)))
+    (upto-at 1048575 (negsuc 19) (round binary32 false c d) (round-plus c d) (is-true _ (round-mono binary32 c d 1048575 (2 ^ 20) p (omega arith) h)))
 
 fine-upto : (y : Float) (c d : ℕ) → 0 < d → c * 2 ^ 12 ≤ 1048575 * d → y ≡ round binary32 false c d
     → Upto 1048575 (2 ^ 12) y
 unfolding round
 fine-upto y c d p h e =
     subst (Upto 1048575 (2 ^ 12)) (sym e)
-    (upto-part 1048575 11 (round binary32 false c d) (round-plus c d) (is-true _ (round-mono binary32 c d 1048575 (2 ^ 12) p (omega arith) h)))
+    (upto-at 1048575 (negsuc 11) (round binary32 false c d) (round-plus c d) (is-true _ (round-mono binary32 c d 1048575 (2 ^ 12) p (omega arith) h)))
 
 pub fine-lt : (y : Float) → Pitch y → toUnsigned 64 (mul binary32 (pastWhole y) (fin false 1 (pos 8))) < 256
 unfolding ofInt

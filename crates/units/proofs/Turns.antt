@@ -1,8 +1,8 @@
 -- The loops of the ratio: each takes one turn at most, and what they hand on is from -120 to 120. Assumes nothing.
 use mathlib.Core.Path.{_≡_, refl, sym, subst}
-use mathlib.Core.Bool.{Bool, true, false, _&&_, _||_, cond}
+use mathlib.Core.Bool.{Bool, true, false, _&&_, cond}
 use mathlib.Core.List.{List}
-use Prim.Native.Nat.{ℕ, _+_, _-_, _*_, _^_, _≤_, _<_}
+use Prim.Native.Nat.{ℕ, _+_, _-_, _*_, _^_, _<_}
 use native.Mathlib.Nat.{mul-le-mul}
 use native.Mathlib.Omega.{arith}
 use borrow.Author.Tests.{ltb-true, ltb-false, lt-ltb, le-ltb}
@@ -11,24 +11,17 @@ use lib.IntN.{ℤ, pos}
 use lib.Pow.{pow-pos}
 use lib.Ieee.Bits.{is-true}
 use lib.Ieee.Order.{round-mono}
-use lib.Ieee.Fits.{down-pos, and-i, and-l, and-r, eq→eqb}
+use lib.Ieee.Fits.{down-pos, and-i, and-l, and-r}
 use lib.Ieee.{Float, nan, inf, fin, binary32, up, down, lt, le, eq, neg, add, sub, sum, round}
 use Rattle.numbers.proofs.Views.{no, or-le, or-ge}
-use Rattle.numbers.proofs.Casts.{or-i, ge-or}
+use Rattle.numbers.proofs.Casts.{or-i, le-or, ge-or}
+use Rattle.numbers.proofs.Rounded.{Plus, p-inf, p-fin, round-plus, round-neg, Upto, upto, upto-at}
 use Rattle.numbers.specs.F32.{_⊕_, _⊖_, _⊗_, _⊘_, decimal, minusDecimal}
 use Rattle.units.specs.declared.Shifted.{Shifted}
 use Rattle.units.specs.Ratio.{within, lowered, raised, ratioIn, ratioOf}
-use Rattle.units.proofs.Bounds.{Plus, p-inf, p-fin, round-plus, round-neg, Upto, upto, upto-whole, Sized, sized}
-use Rattle.units.proofs.Bounds.{is-sized}
+use Rattle.units.proofs.Bounds.{Sized, sized, is-sized}
 
 -- ---- 120 less, 120 more, or neither, is from -120 to 120
-
-le-or : (a b : ℕ) → a ≤ b → T (ltb a b || (eqb a b && true))
-le-or a b h = go (ltb a b) refl
-  where
-    go : (p : Bool) → ltb a b ≡ p → T (p || (eqb a b && true))
-    go true l = tt
-    go false l = and-i (eqb a b) true (let z = ltb-false a b l in let q : a ≡ b = omega arith in eq→eqb q) tt
 
 scaled : (M j : ℕ) (e : ℤ) → 0 < M → 0 < M * 2 ^ j * down e
 scaled M j e p = mul-le-mul (mul-le-mul p (pow-pos j)) (down-pos e)
@@ -86,7 +79,7 @@ more (fin true m e) g h =
     let d = down e * 1 in
     let y = round binary32 false n d in
     rw (le-ltb (m * up e * 1) (120 * down e) (omega arith), lt-ltb (120 * down e) (m * up e * 1) a, round-neg n d) (
-      minus-le-neg 15 3 y (upto-whole 15 3 y (round-plus n d) (is-true _ (round-mono binary32 n d 120 1 (omega arith) (omega arith) (omega arith)))),
+      minus-le-neg 15 3 y (upto-at 15 (pos 3) y (round-plus n d) (is-true _ (round-mono binary32 n d 120 1 (omega arith) (omega arith) (omega arith)))),
       neg-le 15 3 y (omega arith) (round-plus n d),
     )
 

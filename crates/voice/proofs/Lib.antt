@@ -2,3 +2,4 @@
 pub mod Tests
 pub mod States
 pub mod Patches
+pub mod Kept

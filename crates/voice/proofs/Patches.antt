@@ -1,4 +1,5 @@
--- What setting a patch and taking it out compute step by step is what the definitions say, over plain variables. Assumes nothing.
+-- What setting a patch, taking it out and asking for it compute step by step is what the definitions say, over plain
+-- variables. Assumes nothing.
 use mathlib.Core.Path.{_≡_, refl}
 use mathlib.Core.Bool.{true, false}
 use mathlib.Core.List.{List, [], _∷_}
@@ -15,6 +16,7 @@ use Rattle.voice.specs.declared.Voice.{Voice}
 use Rattle.voice.specs.declared.Loaded.{Loaded}
 use Rattle.voice.specs.Voice.{withPatch, withoutPatch}
 use Rattle.voice.specs.Answers.{stateFits, loaded, notLoaded, setPatchAnswer, prepared, takePatchAnswer}
+use Rattle.voice.specs.Answers.{patchAnswer}
 
 module _ (v : Voice) (p : Patch) (c : Compiled) where
   pub load-refused : (c .number ≡ 0 → ⊥) → record { number = c .number; at = c .at; voice = v } ≡ loaded v p c
@@ -49,3 +51,18 @@ module _ (v : Voice) where
       → prepared 0 w ≡ takePatchAnswer v
   unfolding takePatchAnswer withoutPatch six
   take-patch-on h ep el ew = rw (h, ew, ep, el) refl
+
+  pub patch-9 : stateFits v ≡ false → {p : Patch} → p ≡ zeroPatch
+      → record { number = 9; has = false; patch = p } ≡ patchAnswer v
+  unfolding patchAnswer
+  patch-9 h e = rw (h, e) refl
+
+  module _ (state : stateFits v ≡ true) where
+    pub patch-none : v .«has_patch» ≡ false → {p : Patch} → p ≡ zeroPatch
+        → record { number = 0; has = false; patch = p } ≡ patchAnswer v
+    unfolding patchAnswer
+    patch-none h e = rw (state, h, e) refl
+
+    pub patch-there : v .«has_patch» ≡ true → record { number = 0; has = true; patch = v .patch } ≡ patchAnswer v
+    unfolding patchAnswer
+    patch-there h = rw (state, h) refl

@@ -1,10 +1,11 @@
 -- What each entry of a voice but its block answers, refused input included, in document 01's order. Definitions only.
 use Prim.Native.Nat.{ℕ}
-use mathlib.Core.Bool.{Bool, true, cond, _&&_}
+use mathlib.Core.Bool.{Bool, true, false, cond, _&&_}
 use mathlib.Core.List.{List}
 use lib.Dec.{eqb}
 use lib.Ieee.{Float}
 use Rattle.patch.specs.declared.Patch.{Patch}
+use Rattle.patch.specs.Form.{zeroPatch}
 use Rattle.patch.specs.Packed.{patchFits}
 use Rattle.patch_limits.specs.Ranges.{sampleRateFits}
 use Rattle.algorithms.specs.declared.Plan.{Plan}
@@ -15,6 +16,7 @@ use Rattle.envelope_inner.specs.Envelope.{isStage, allStages}
 use Rattle.voice.specs.declared.Voice.{Voice}
 use Rattle.voice.specs.declared.Prepared.{Prepared}
 use Rattle.voice.specs.declared.Loaded.{Loaded}
+use Rattle.voice.specs.declared.Stored.{Stored}
 use Rattle.voice.specs.Voice.{freshVoice, noVoice, withPatch, withoutPatch}
 
 -- ---- what is refused
@@ -62,3 +64,13 @@ setPatchAnswer v p table =
 -- 9 only
 unfoldable pub takePatchAnswer : Voice → Prepared
 takePatchAnswer v = cond (stateFits v) (prepared 0 (withoutPatch v)) (prepared 9 v)
+
+abbrev pub noPatch : ℕ → Stored
+noPatch number = record { number = number; has = false; patch = zeroPatch }
+
+-- 9 only; a voice without a patch answers with the zero patch, whatever is stored in it
+unfoldable pub patchAnswer : Voice → Stored
+patchAnswer v =
+    cond (stateFits v)
+    (cond (v .«has_patch») (record { number = 0; has = true; patch = v .patch }) (noPatch 0))
+    (noPatch 9)

@@ -1,10 +1,11 @@
 // A DX7 voice between blocks, after voice.rs: its state goes in and comes back by value. An entry refuses in document
-// 01's order (starting 2, 5; setting a patch 9, 6, 2, 3, 4; taking it out 9), and its promise names the answer for
-// every input: a refusal hands back the voice as it came. `voice_render` has its blocks.
+// 01's order (starting 2, 5; setting a patch 9, 6, 2, 3, 4; taking it out or asking for it 9), and its promise names
+// the answer for every input: a refusal hands back the voice as it came. `voice_render` has its setup and its blocks.
 ghost use mathlib.Core.Path.{_≡_};
 ghost use Rattle.envelope_inner.specs.Envelope.{allStages};
 ghost use Rattle.voice.specs.Voice.{voiceWith, withPatch};
 ghost use Rattle.voice.specs.Answers.{patchSound, stateFits, initAnswer, loaded, setPatchAnswer, takePatchAnswer};
+ghost use Rattle.voice.specs.Answers.{patchAnswer};
 use algorithms::Compiled;
 use algorithms::Plan;
 use dx_units_inner::Ratio;
@@ -46,6 +47,13 @@ pub struct Loaded {
     pub number: u8,
     pub at: u8,
     pub voice: Voice,
+}
+
+// What asking for the patch gives: whether there is one, and it; the zero patch where there is none.
+pub struct Stored {
+    pub number: u8,
+    pub has: bool,
+    pub patch: Patch,
 }
 
 // A voice at rest, dirty and without a patch; of no operators where starting is refused.
@@ -229,5 +237,31 @@ pub fn take_patch(v: Voice) -> Prepared
     Prepared {
         number: 0,
         voice: with_patch(v, false, patch, [0, 0, 0, 0, 0, 0], plan),
+    }
+}
+
+// The patch that the voice has, if it has one.
+pub fn patch(v: Voice) -> Stored
+    ensures { λ r. ⌜ r ≡ patchAnswer v ⌝ }
+{
+    if !state_fits(v) {
+        return Stored {
+            number: 9,
+            has: false,
+            patch: Patch::new(),
+        };
+    }
+    if !v.has_patch {
+        return Stored {
+            number: 0,
+            has: false,
+            patch: Patch::new(),
+        };
+    }
+    let stored = v.patch;
+    Stored {
+        number: 0,
+        has: true,
+        patch: stored,
     }
 }

@@ -6,3 +6,4 @@ pub mod Same
 pub mod Phases
 pub mod Accepted
 pub mod Empty
+pub mod Lengths

@@ -7,7 +7,8 @@ use native.Mathlib.Numerals.{add-one}
 use lib.ListN.{getD, set}
 use lib.Ieee.{Float, nan}
 use Rattle.numbers.specs.F32.{_⊕_, _⊗_}
-use Rattle.dx_units_inner.specs.Units.{rateScaling, stepFor}
+use Rattle.dx_units_step.specs.Step.{stepFor}
+use Rattle.dx_units_inner.specs.Units.{rateScaling}
 use Rattle.envelope_inner.specs.declared.Envelope.{Envelope}
 use Rattle.envelope_inner.specs.Envelope.{movedTo}
 use Rattle.patch.specs.declared.Operator.{Operator}

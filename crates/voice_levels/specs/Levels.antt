@@ -10,7 +10,8 @@ use Rattle.numbers.specs.F32.{_⊕_, _⊖_, _⊗_, decimal, minusDecimal, asFlo
 use Rattle.numbers.specs.Extremes.{minimum, magnitude}
 use Rattle.units.specs.Ratio.{ratioOf}
 use Rattle.dx_units_power.specs.Pow.{pow2Fast}
-use Rattle.dx_units_inner.specs.Units.{rateScaling, keyboardScaling, ampModSensitivity, stepFor}
+use Rattle.dx_units_step.specs.Step.{stepFor}
+use Rattle.dx_units_inner.specs.Units.{rateScaling, keyboardScaling, ampModSensitivity}
 use Rattle.dx_units_inner.specs.declared.Ratio.{Ratio}
 use Rattle.dx_units_inner.specs.declared.Ratio.the-variants.{Note, Hertz}
 use Rattle.envelope_inner.specs.declared.Envelope.{Envelope}

@@ -158,7 +158,7 @@ pub fn note_frequency(
 fn brightness_of(brightness: f32, opcode: u8) -> f32
     ensures { λ r. ⌜ r ≡ brightnessOf brightness opcode ⌝ }
 {
-    if algorithms::is_modulator(opcode) {
+    if algorithms::is_modulating(opcode) {
         return (brightness - 0.5) * 32.0;
     }
     0.0
@@ -224,7 +224,7 @@ fn raise_operator(
     requires { ⌜ e .stage ≤ 3 ⌝ }
     ensures { λ r. ⌜ raisedBy e r ≡ raised g op tuned «level_headroom» opcode e ⌝ }
 {
-    let step = dx_units_inner::frequency_step(frequency(g, tuned));
+    let step = dx_units_step::frequency_step(frequency(g, tuned));
     let t = g.timing;
     let rate = t.envelope_rate * dx_units_inner::rate_scaling(g.note, op.rate_scaling);
     let p = place(t, true, rate, e);

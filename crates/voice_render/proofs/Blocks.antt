@@ -14,6 +14,7 @@ use Rattle.sine.specs.Pairs.{sinePairs}
 use Rattle.units.specs.Tables.{lutPitchRatioHigh, lutPitchRatioLow}
 use Rattle.dx_units_inner.specs.Units.{normalizedVelocity}
 use Rattle.patch.specs.declared.Patch.{Patch}
+use Rattle.patch.specs.Layout.{patchSensitivity}
 use Rattle.patch.specs.Packed.{patchFits, operatorsFit, stagesFit, modulationsFit, nameFits}
 use Rattle.patch_limits.proofs.Within.{patch-fits}
 use Rattle.algorithms.specs.Plan.{counted}
@@ -33,9 +34,11 @@ use Rattle.voice.specs.Answers.{stateFits}
 use Rattle.voice_render.specs.declared.VoiceParameters.{VoiceParameters}
 use Rattle.voice_render.specs.declared.Struck.{Struck}
 use Rattle.voice_render.specs.declared.Begun.{Begun}
+use Rattle.voice_render.specs.declared.Readied.{Readied}
 use Rattle.voice_render.specs.Setup.{withSetup, setUp}
 use Rattle.voice_render.specs.Block.{noteOn, struck, begun, restartedAt, allRestarted, entering, levelsFor, after, played, sounded}
 use Rattle.voice_render.specs.Answers.{blockFits, parametersFit, Answered, unsounded, sounding, renderAnswer}
+use Rattle.voice_render.specs.Answers.{readied, setupAnswer}
 
 -- ---- what is accepted
 
@@ -48,7 +51,7 @@ operators-of p t =
     let c = leb (p .algorithm) 31 in
     let d = leb (p .feedback) 7 in
     let e = leb (p .«reset_phase») 1 in
-    let f = modulationsFit (p .modulations) 15 in
+    let f = modulationsFit (p .modulations) patchSensitivity in
     let g = leb (p .transpose) 48 in
     let h = nameFits (p .name) in
     let i = eqb (p .«active_operators») 63 in
@@ -95,6 +98,28 @@ module _ (high low : List Float) (v : Voice) where
   set-up h ee es ew =
       let made = withSetup v (pitchSet (v .«pitch_envelope») (v .patch .«pitch_envelope» .rate) (v .patch .«pitch_envelope» .level)) (setUpTo high low (v .patch .op) (v .operators) (setupOf v)) in
       rw (ew, ee, es) (sym (ap (λ (b : Bool). cond b made v) h))
+
+  pub setup-9 : stateFits v ≡ false → readied 9 false v ≡ setupAnswer high low v
+  unfolding setupAnswer
+  setup-9 h = rw h refl
+
+  module _ (state : stateFits v ≡ true) where
+    tried : Bool → Readied
+    tried b = cond b (readied 0 true (setUp high low v)) (readied 0 false v)
+
+    pub setup-clean : v .dirty ≡ false → readied 0 false v ≡ setupAnswer high low v
+    unfolding setupAnswer tried
+    setup-clean h = rw state (sym (ap tried h))
+
+    pub setup-dirty : v .dirty ≡ true → {w : Voice} → w ≡ setUp high low v → readied 0 true w ≡ setupAnswer high low v
+    unfolding setupAnswer tried
+    setup-dirty h e = rw (state, e) (sym (ap tried h))
+
+-- with the tables made for one setup
+pub setup-tables : (v : Voice) {r : Readied} {high low : List Float}
+    → high ≡ lutPitchRatioHigh → low ≡ lutPitchRatioLow → r ≡ setupAnswer high low v
+    → r ≡ setupAnswer lutPitchRatioHigh lutPitchRatioLow v
+setup-tables v eh el e = rw (eh, el) at e
 
 -- ---- a block
 

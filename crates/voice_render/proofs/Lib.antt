@@ -1,2 +1,4 @@
 -- laws for the functions' proofs, and for the crates above
 pub mod Blocks
+pub mod Alike
+pub mod Kept

@@ -1,15 +1,17 @@
--- What a voice's block answers, refused input and buffers included, in document 01's order. Definitions only.
+-- What a voice's setup and its block answer, refused input and buffers included, in document 01's order. Definitions
+-- only.
 use Prim.Native.Nat.{ℕ, _%_}
-use mathlib.Core.Bool.{Bool, cond, _&&_}
+use mathlib.Core.Bool.{Bool, true, false, cond, _&&_}
 use mathlib.Core.List.{List}
 use lib.Dec.{eqb, leb}
 use lib.ListN.{length}
 use lib.Ieee.{Float}
 use Rattle.numbers.specs.F32.{decimal, minusDecimal}
-use Rattle.patch_limits.specs.Ranges.{between}
+use Rattle.patch_limits.specs.Ranges.{between, noteFits, unitFits}
 use Rattle.voice.specs.declared.Voice.{Voice}
 use Rattle.voice.specs.Answers.{stateFits}
 use Rattle.voice_render.specs.declared.VoiceParameters.{VoiceParameters}
+use Rattle.voice_render.specs.declared.Readied.{Readied}
 use Rattle.voice_render.specs.Setup.{setUp}
 use Rattle.voice_render.specs.Block.{Sounded, sounded}
 
@@ -22,14 +24,22 @@ blockFits size = eqb (size % 4) 0 && leb size 4096
 -- else 7
 unfoldable pub parametersFit : VoiceParameters → Bool
 parametersFit p =
-    between (decimal 0 0) (decimal 127 0) (p .note)
-    && between (decimal 0 0) (decimal 1 0) (p .velocity)
-    && between (decimal 0 0) (decimal 1 0) (p .brightness)
-    && between (decimal 0 0) (decimal 1 0) (p .«envelope_control»)
+    noteFits (p .note)
+    && unitFits (p .velocity)
+    && unitFits (p .brightness)
+    && unitFits (p .«envelope_control»)
     && between (minusDecimal 4 0) (decimal 4 0) (p .«pitch_mod»)
-    && between (decimal 0 0) (decimal 1 0) (p .«amp_mod»)
+    && unitFits (p .«amp_mod»)
 
--- ---- the answer
+-- ---- the answers
+
+abbrev pub readied : ℕ → Bool → Voice → Readied
+readied number wasDirty v = record { number = number; «was_dirty» = wasDirty; voice = v }
+
+-- 9 only; a dirty voice is set up, and a clean one stays as it is
+unfoldable pub setupAnswer : List Float → List Float → Voice → Readied
+setupAnswer high low v =
+    cond (stateFits v) (cond (v .dirty) (readied 0 true (setUp high low v)) (readied 0 false v)) (readied 9 false v)
 
 -- the number, the voice and the whole block after it
 pub record Answered : Type 0 where

@@ -2,3 +2,4 @@
 pub mod Setup
 pub mod Block
 pub mod Answers
+pub mod Heard

@@ -1,6 +1,6 @@
-// A block of a DX7 voice, after voice.rs's render: the voice goes in and comes back by value. It refuses in document
-// 01's order (9, 8, 7), and its promise names the answer and the whole block for every input: a refusal hands back the
-// voice as it came and touches no buffer.
+// A block of a DX7 voice, after voice.rs's setup and render: the voice goes in and comes back by value. A block refuses
+// in document 01's order (9, 8, 7), a setup 9, and the promise names the answer and the whole block for every input: a
+// refusal hands back the voice as it came and touches no buffer.
 ghost use mathlib.Core.Path.{_≡_};
 ghost use mathlib.Core.Bool.{false};
 ghost use Prim.Native.Nat.{_≤_};
@@ -11,7 +11,7 @@ ghost use Rattle.units.specs.Tables.{lutPitchRatioHigh, lutPitchRatioLow};
 ghost use Rattle.voice.specs.Answers.{stateFits};
 ghost use Rattle.voice_render.specs.Setup.{withSetup, setUp};
 ghost use Rattle.voice_render.specs.Block.{noteOn, struck, begun, restarted, entering, after, sounded};
-ghost use Rattle.voice_render.specs.Answers.{blockFits, parametersFit, renderAnswer};
+ghost use Rattle.voice_render.specs.Answers.{blockFits, parametersFit, renderAnswer, setupAnswer};
 use envelope_inner::Envelope;
 use operator::Operator;
 use voice::Voice;
@@ -34,6 +34,13 @@ pub struct VoiceParameters {
 // What a block gives besides its samples.
 pub struct Rendered {
     pub number: u8,
+    pub voice: Voice,
+}
+
+// What a setup gives: whether the voice was dirty, and the voice.
+pub struct Readied {
+    pub number: u8,
+    pub was_dirty: bool,
     pub voice: Voice,
 }
 
@@ -60,12 +67,12 @@ fn block_fits(size: usize) -> bool
 fn parameters_fit(p: VoiceParameters) -> bool
     ensures { λ r. ⌜ r ≡ parametersFit p ⌝ }
 {
-    patch_limits::between(0.0, 127.0, p.note)
-        & patch_limits::between(0.0, 1.0, p.velocity)
-        & patch_limits::between(0.0, 1.0, p.brightness)
-        & patch_limits::between(0.0, 1.0, p.envelope_control)
+    patch_limits::note_fits(p.note)
+        & patch_limits::unit_fits(p.velocity)
+        & patch_limits::unit_fits(p.brightness)
+        & patch_limits::unit_fits(p.envelope_control)
         & patch_limits::between(-4.0, 4.0, p.pitch_mod)
-        & patch_limits::between(0.0, 1.0, p.amp_mod)
+        & patch_limits::unit_fits(p.amp_mod)
 }
 
 fn with_setup(v: Voice, pitch_envelope: Envelope, s: Setup) -> Voice
@@ -84,7 +91,7 @@ fn with_setup(v: Voice, pitch_envelope: Envelope, s: Setup) -> Voice
 }
 
 // What is computed once for a patch: envelopes, headroom and frequency ratios. A voice without one stays dirty.
-fn setup(high: &[f32; 256], low: &[f32; 256], v: Voice) -> Voice
+fn set_up(high: &[f32; 256], low: &[f32; 256], v: Voice) -> Voice
     requires { ⌜ T (stateFits v) ⌝ }
     ensures { λ r. ⌜ r ≡ setUp (now (high .entry)) (now (low .entry)) v ⌝ }
 {
@@ -108,6 +115,33 @@ fn setup(high: &[f32; 256], low: &[f32; 256], v: Voice) -> Voice
     let op = patch.op;
     let s = voice_setup::setup_operators(high, low, v.operators, op, before);
     with_setup(v, pitch, s)
+}
+
+// The same for any voice: a clean one stays as it is.
+pub fn setup(v: Voice) -> Readied
+    ensures { λ r. ⌜ r ≡ setupAnswer lutPitchRatioHigh lutPitchRatioLow v ⌝ }
+{
+    if !voice::state_fits(v) {
+        return Readied {
+            number: 9,
+            was_dirty: false,
+            voice: v,
+        };
+    }
+    if !v.dirty {
+        return Readied {
+            number: 0,
+            was_dirty: false,
+            voice: v,
+        };
+    }
+    let high = units::lut_pitch_ratio_high();
+    let low = units::lut_pitch_ratio_low();
+    Readied {
+        number: 0,
+        was_dirty: true,
+        voice: set_up(&high, &low, v),
+    }
 }
 
 // The gate opens: it was closed in the last block that sounded.
@@ -285,7 +319,7 @@ pub fn render_with(
     if v.dirty {
         return Rendered {
             number: 0,
-            voice: setup(high, low, v),
+            voice: set_up(high, low, v),
         };
     }
     Rendered {

@@ -1,6 +1,6 @@
 -- `bank::checksum` meets its contract. The sum completes to 128. Assumes nothing.
 use borrow.Author.Needs.{needs}
-use Rattle.bank.specs.Bank.{checksumOf}
+use Rattle.bank.specs.Dump.{checksumOf}
 use Rattle.bank.proofs.checksum.Statement.{statement}
 use Rattle.bank.proofs.checksum.Tie as tie
 

@@ -1,44 +1,42 @@
--- `bank::framed_right` meets its contract. The tests are the frame's, in order. Assumes nothing.
-use mathlib.Core.Bool.{and-assoc, and-true}
+-- `bank::framed_right` meets its contract. Assumes nothing.
+use native.Mathlib.Omega.{arith}
 use borrow.Author.Needs.{needs}
-use Rattle.bank.specs.Bank.{frame, framed}
+use lib.ListN.{length-map}
+use denote.Ref.{now}
+use Rattle.bank.proofs.Places.{framed-is}
 use Rattle.bank.proofs.framed_right.Statement.{statement}
 use Rattle.bank.proofs.framed_right.Tie as tie
 
-shared-slice-read-result : tie.Need-shared-slice-read-result
-shared-slice-read-result c = search needs
+in-rows-requires : tie.Need-in-rows-requires
+in-rows-requires c κs = search needs
 
-shared-slice-read-result-2 : tie.Need-shared-slice-read-result-2
-shared-slice-read-result-2 c = search needs
+add-in-row : tie.Need-add-in-row
+add-in-row c = omega arith
 
-shared-slice-read-result-3 : tie.Need-shared-slice-read-result-3
-shared-slice-read-result-3 c = search needs
+add-in-row-2 : tie.Need-add-in-row-2
+add-in-row-2 c = omega arith
 
-shared-slice-read-result-4 : tie.Need-shared-slice-read-result-4
-shared-slice-read-result-4 c = search needs
+shared-slice-read-in-row : tie.Need-shared-slice-read-in-row
+shared-slice-read-in-row c = omega arith
 
-shared-slice-read-result-5 : tie.Need-shared-slice-read-result-5
-shared-slice-read-result-5 c = search needs
-
-shared-slice-read-result-6 : tie.Need-shared-slice-read-result-6
-shared-slice-read-result-6 c = search needs
-
-shared-slice-read-result-7 : tie.Need-shared-slice-read-result-7
-shared-slice-read-result-7 c = search needs
+in-row-requires : tie.Need-in-row-requires
+in-row-requires c κs = search needs
 
 returns : tie.Need-returns
-unfolding framed frame
-returns c = simp (and-assoc, and-true)
+returns c =
+    let at-in-rows = c .before .before .before in
+    let at-start = at-in-rows .before .before .before in
+    framed-is (at-start .args .form) (simp length-map at (at-start .good .1 .0 .1 .1 .0 .1 .0 .1))
+    (now (at-start .args .dump)) (at-in-rows .in-rows .result) (c .in-row .result) (at-in-rows .in-rows .ensures)
+    (c .in-row .ensures)
 
 pub framed-right-spec : {M : Type 1} → statement M
 framed-right-spec =
     tie.close
     (tie.spec
-    shared-slice-read-result
-    shared-slice-read-result-2
-    shared-slice-read-result-3
-    shared-slice-read-result-4
-    shared-slice-read-result-5
-    shared-slice-read-result-6
-    shared-slice-read-result-7
+    in-rows-requires
+    add-in-row
+    add-in-row-2
+    shared-slice-read-in-row
+    in-row-requires
     returns)

@@ -3,7 +3,7 @@
 -- value that `new` returns is stored and passed on as it is. In a local of a body MIR erases the lifetime of the
 -- struct's type, so the value is shown to have the type at `erased`: what the struct owns does not say the lifetime's
 -- name. Assumes nothing.
-use mathlib.Core.Path.{_≡_, refl, ap, _∙_}
+use mathlib.Core.Path.{_≡_, refl, subst}
 use Prim.Native.Nat.{ℕ, _<_, _^_}
 use mathlib.Core.List.{List, [], _∷_}
 use lib.ListN.{length}
@@ -42,7 +42,7 @@ use denote.Triple.Walked.{says, Stays, stay-none, stay-none-slice, walkOf, goes-
 use denote.Triple.Walked.{walked, walk-meets}
 use denote.Exit.{yes}
 use denote.Triple.Clauses.{ensured, lasts}
-use Rattle.bank.specs.Bank.{partOf}
+use Rattle.bank.specs.Bank.{Handed}
 use Rattle.bank.specs.declared.Reader.{Reader}
 use Rattle.bank.proofs.Reader as T
 use Rattle.bank.proofs.Reader.Laws as T′
@@ -79,8 +79,9 @@ module _ {M : Type 1} (𝓤 : URA M) (H : Heap 𝓤) (A : Atoms 𝓤) (W : Given
   abbrev v : Val
   v = sliceVal (s .ptr) (length (s .now))
 
-  abbrev found : List ℕ
-  found = partOf (now s) n
+  -- what is said of the part
+  abbrev Found : RefT (List ℕ) → Type 0
+  Found t = Handed s n t
 
   -- the type of a part
   abbrev R : RattleType
@@ -124,10 +125,10 @@ module _ {M : Type 1} (𝓤 : URA M) (H : Heap 𝓤) (A : Atoms 𝓤) (W : Given
       qed W (‵ (B (κ, tt) .own r (u ∷ [])) ∷ (‵ (flft κ q) ⊛ ‵ ftrue) ∷ []) ∵ nothing ! $ move ! (1 ∷ 0 ∷ []) $ fjoin !
       $ move ! (1 ∷ 0 ∷ []) $ join ! $ frame ! $ done !
 
-  part-said : (r : Reader) (t : RefT (List ℕ)) → ent 𝓤 (ensured 𝓤 H A part.ended (part.clauses 𝓤 H A mem run) (κ, tt) (r, tt) tt t) (fact 𝓤 (now t ≡ partOf (now (r .dump)) (r .slot)))
-  part-said r t = exE 𝓤 _ (λ ws. snd∗ 𝓤 (sem 𝓤 H A (lasts part.ended (κ, tt) (r, tt) ws)) (fact 𝓤 (now t ≡ partOf (now (r .dump)) (r .slot))))
+  part-said : (r : Reader) (t : RefT (List ℕ)) → ent 𝓤 (ensured 𝓤 H A part.ended (part.clauses 𝓤 H A mem run) (κ, tt) (r, tt) tt t) (fact 𝓤 (Handed (r .dump) (r .slot) t))
+  part-said r t = exE 𝓤 _ (λ ws. snd∗ 𝓤 (sem 𝓤 H A (lasts part.ended (κ, tt) (r, tt) ws)) (fact 𝓤 (Handed (r .dump) (r .slot) t)))
 
-  exits : (t : RefT (List ℕ)) (u : Val) → now t ≡ found
+  exits : (t : RefT (List ℕ)) (u : Val) → Found t
       → ent 𝓤 (⋆ 𝓤 H A (‵ (R .own t (u ∷ [])) ∷ (‵ (flft κ q) ⊛ ‵ ftrue) ∷ ‵ Own ∷ [])) (Post u)
   exits t u e =
       qed W (‵ (R .own t (u ∷ [])) ∷ (‵ (flft κ q) ⊛ ‵ ftrue) ∷ ‵ Own ∷ []) ∵
@@ -149,12 +150,12 @@ module _ {M : Type 1} (𝓤 : URA M) (H : Heap 𝓤) (A : Atoms 𝓤) (W : Given
         use2 W (raw (Part 𝓤 H A mem run .pre (to-part r u))) (goes-part r u) $
         calls-at ! fm (Part 𝓤 H A mem run) known-part (to-part r u) (and-then ! (load ! (from ! (stop !)) (look ! 2 refl)) (no-more !)) (λ u′.
         use1 W (later (some (λ (t : RefT (List ℕ)). ((‵ (flft κ q) ⊛ ‵ ftrue) ⊛ ‵ (R .own t (u′ ∷ []))) ⊛ raw (ensured 𝓤 H A part.ended (part.clauses 𝓤 H A mem run) (κ, tt) (r, tt) tt t)))) (id⊢ 𝓤 _) $ await ! tt $ pick ! (λ t.
-        split ! $ move ! (1 ∷ []) $ use1 W (raw (fact 𝓤 (now t ≡ partOf (now (r .dump)) (r .slot)))) (part-said r t) $ heard ! (now t ≡ partOf (now (r .dump)) (r .slot)) (λ e′. split ! $ move ! (1 ∷ []) $
+        split ! $ move ! (1 ∷ []) $ use1 W (raw (fact 𝓤 (Handed (r .dump) (r .slot) t))) (part-said r t) $ heard ! (Handed (r .dump) (r .slot) t) (λ e′. split ! $ move ! (1 ∷ []) $
         -- [the result; the token; what s owns; _3; …; _2; …; _1; …; room for _0; …]
         peeks ! R (Is R) (shows 𝓤 H A R) t (u′ ∷ []) (λ is′.
         land ! (from ! (stop !)) (init ! 9 refl (shr-slice-lawful 𝓤 H A W (named 0) κ u8 .typed t (u′ ∷ []) is′ .0)) $
         returns ! (look ! 9 refl) $ forget ! 3 refl $ forget ! 5 refl $ forget ! 7 refl $ forget ! 9 refl $ move ! (9 ∷ 10 ∷ []) $ free1 ! $ move ! (7 ∷ 8 ∷ []) $ free1 ! $ move ! (5 ∷ 6 ∷ []) $ free1 ! $ move ! (3 ∷ 4 ∷ []) $ free1 ! $ free0 ! $
-        by ! (exits t u′ (e′ ∙ (ap (λ (x : RefT (List ℕ)). partOf (now x) (r .slot)) (e .0) ∙ ap (partOf (now s)) (e .1))))))))))))))))
+        by ! (exits t u′ (subst (λ (x : RefT (List ℕ)). Handed x n t) (e .0) (subst (λ (k : ℕ). Handed (r .dump) k t) (e .1) e′)))))))))))))))
 
 module _ {M : Type 1} (𝓤 : URA M) (H : Heap 𝓤) (A : Atoms 𝓤) (W : Given 𝓤 H A) (mem : Memory → SProp 𝓤) (run : Routine → Fun 𝓤) where
   read-walks : (C : Calls 𝓤 H) (Λ : Loops 𝓤 H) → FmC 𝓤 H (W .laws) C → Triple 𝓤 (C #bank·Reader·new) (New 𝓤 H A mem run)

@@ -1,9 +1,10 @@
 -- `bank::slot_part` meets its contract. The part begins 6 bytes and 128 for each slot before. Assumes nothing.
-use mathlib.Core.Path.{_≡_}
-use Prim.Native.Nat.{_+_, _-_, _*_}
-use native.Mathlib.Omega.{arith}
+use mathlib.Core.Path.{ap}
+use Prim.Native.Nat.{ℕ, _+_, _*_}
+use native.Mathlib.Nat.{add-sub-cancel-left, add-comm}
 use borrow.Author.Needs.{needs}
-use Rattle.bank.specs.Bank.{slotOf}
+use denote.Ref.{ptr}
+use Rattle.bank.specs.Bank.{slotOf, slotAt}
 use Rattle.bank.proofs.slot_part.Statement.{statement}
 use Rattle.bank.proofs.slot_part.Tie as tie
 
@@ -26,10 +27,12 @@ part-result-end : tie.Need-part-result-end
 part-result-end c = search needs
 
 returns : tie.Need-returns
-unfolding slotOf
+unfolding slotOf slotAt
 returns c =
-    let e : 6 + c .before .args .slot * 128 + 128 - (6 + c .before .args .slot * 128) ≡ 128 = omega arith in
-    rw e
+    let dump = c .before .args .dump in (
+      rw add-sub-cancel-left,
+      ap (λ (o : ℕ). (ptr dump .0, o)) (add-comm (6 + c .before .args .slot * 128) (ptr dump .1)),
+    )
 
 pub slot-part-spec : {M : Type 1} → statement M
 slot-part-spec =

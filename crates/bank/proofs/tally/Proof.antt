@@ -7,7 +7,7 @@ use borrow.Author.Needs.{needs}
 use lib.ListN.{length, take}
 use lib.Seq.{take-all}
 use denote.Ref.{now}
-use Rattle.bank.specs.Bank.{total, largestOf}
+use Rattle.bank.specs.Dump.{total, largestOf}
 use Rattle.bank.proofs.Sums.{total-take, largest-take}
 use Rattle.bank.proofs.tally.Statement.{statement}
 use Rattle.bank.proofs.tally.Tie as tie

@@ -1,5 +1,6 @@
 -- `lfo::init` meets its contract. Assumes nothing.
-use Rattle.lfo.specs.Answers.{initAnswer}
+use Rattle.lfo_inner.specs.Lfo.{freshLfo, movedTo}
+use Rattle.lfo.specs.Answers.{noLfo, initAnswer}
 use Rattle.numbers.specs.F32.{decimal}
 use lib.Ieee.{ofBits}
 use mathlib.Core.Path.{_∙_, sym}
@@ -21,7 +22,7 @@ fresh-requires-2 : tie.Need-fresh-requires-2
 fresh-requires-2 c κs = search needs
 
 returns-2 : tie.Need-returns-2
-unfolding initAnswer decimal ofBits
+unfolding initAnswer noLfo movedTo freshLfo decimal ofBits
 returns-2 c = simp (c .fresh2 .ensures, sym (c .before .before .sample-rate-fits .ensures) ∙ c .before .if1 .left)
 
 pub init-spec : {M : Type 1} → statement M

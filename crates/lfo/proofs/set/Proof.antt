@@ -29,7 +29,7 @@ returns-2 c =
 set-requires : tie.Need-set-requires
 set-requires c κs =
     let at-start = c .before .before .before .before in
-    sensitivity-fits (at-start .args .modulations) 7 (accepted (c .before .modulations-fit .ensures) (c .if2 .left))
+    sensitivity-fits (at-start .args .modulations) _ (accepted (c .before .modulations-fit .ensures) (c .if2 .left))
 
 returns-3 : tie.Need-returns-3
 unfolding setAnswer

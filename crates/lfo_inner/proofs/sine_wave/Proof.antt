@@ -11,7 +11,7 @@ sine-requires c κs = search needs
 
 returns : tie.Need-returns
 unfolding sineWave decimal ofBits
-returns c = simp (c .sine .ensures)
+returns c = simp (c .sine .ensures .0)
 
 pub sine-wave-spec : {M : Type 1} → statement M
 sine-wave-spec = tie.close (tie.spec sine-requires returns)

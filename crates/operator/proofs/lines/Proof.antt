@@ -67,7 +67,7 @@ loop-again c =
     let v = at-loop .loop .inv in
     let q = at-pre .pre in (
       running-turn (v .0) (at-loop-test .loop-test .taken) (q .0) (q .2)
-          (ap (λ (x : Float). x ⊗ at-loop .loop .first .amplitude) (at-line .line .ensures))
+          (ap (λ (x : Float). x ⊗ at-loop .loop .first .amplitude) (at-line .line .ensures .0))
           (c .before .before .advance .ensures) (c .mix .ensures),
       omega arith,
     )

@@ -5,7 +5,7 @@ use lib.Dec.{T}
 use lib.ListN.{getD}
 use lib.Ieee.{Float, nan}
 use Rattle.sine.specs.Bound.{within}
-use Rattle.sine.proofs.Bounded.{entry-within}
+use Rattle.sine.proofs.Bounded.{pairs-within}
 use borrow.Author.Needs.{needs}
 use Rattle.sine.proofs.entry.Statement.{statement}
 use Rattle.sine.proofs.entry.Tie as tie
@@ -19,7 +19,8 @@ element-copy-out-result c = search needs
 returns : tie.Need-returns
 returns c =
     let s = c .before in
-    (refl, λ e. subst (λ (l : List Float). T (within (getD l (s .args .i) nan))) (sym e) (entry-within (s .args .i) (s .pre)))
+    let i = s .args .i in
+    (refl, λ e. subst (λ (l : List Float). T (within (getD l i nan))) (sym e) (pairs-within i (s .pre)))
 
 pub entry-spec : {M : Type 1} → statement M
 entry-spec = tie.close (tie.spec mul-result element-copy-out-result returns)

@@ -8,6 +8,7 @@ use lib.Dec.{T}
 use lib.Ieee.{ofBits, inFloat}
 use Rattle.numbers.specs.F32.{decimal}
 use Rattle.sine.proofs.Fraction.{line-is}
+use Rattle.sine.proofs.Lines.{line-within}
 use borrow.Author.Needs.{needs}
 use Rattle.sine.proofs.line.Statement.{statement}
 use Rattle.sine.proofs.line.Tie as tie
@@ -46,7 +47,8 @@ returns : tie.Need-returns
 unfolding decimal ofBits
 returns c =
     let s = c .before .before .before in
-    line-is (now (s .args .pairs)) (s .args .phase) (c .before .entry .ensures .0) (c .entry2 .ensures .0)
+    let q = line-is (now (s .args .pairs)) (s .args .phase) (c .before .entry .ensures .0) (c .entry2 .ensures .0) in
+    (q, line-within (now (s .args .pairs)) (s .args .phase) (omega arith) q)
 
 pub line-spec : {M : Type 1} → statement M
 line-spec =

@@ -1,7 +1,9 @@
 -- `sine::sine` meets its contract. Assumes nothing.
+use denote.Ref.{now}
 use lib.Ieee.{ofBits}
 use Rattle.numbers.specs.F32.{decimal}
 use Rattle.sine.specs.Sine.{sineOf}
+use Rattle.sine.proofs.Places.{sine-within}
 use borrow.Author.Needs.{needs}
 use Rattle.sine.proofs.sine.Statement.{statement}
 use Rattle.sine.proofs.sine.Tie as tie
@@ -11,7 +13,10 @@ interpolate-wrap-requires c κs = search needs
 
 returns : tie.Need-returns
 unfolding sineOf decimal ofBits
-returns c = c .interpolate-wrap .ensures
+returns c =
+    let s = c .before .before in
+    let q = c .interpolate-wrap .ensures in
+    (q, sine-within (now (s .args .lut)) (s .args .phase) q)
 
 pub sine-spec : {M : Type 1} → statement M
 sine-spec = tie.close (tie.spec interpolate-wrap-requires returns)

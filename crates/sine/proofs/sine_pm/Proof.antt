@@ -12,7 +12,7 @@ line-requires c κs = search needs
 
 returns : tie.Need-returns
 unfolding sinePm
-returns c = simp (c .line .ensures, c .before .modulate .ensures)
+returns c = (simp (c .line .ensures .0, c .before .modulate .ensures), c .line .ensures .1)
 
 pub sine-pm-spec : {M : Type 1} → statement M
 sine-pm-spec = tie.close (tie.spec modulate-requires line-requires returns)

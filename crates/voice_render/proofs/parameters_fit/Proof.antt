@@ -7,40 +7,47 @@ use lib.Ieee.{ofBits, neg}
 use Rattle.voice_render.proofs.parameters_fit.Statement.{statement}
 use Rattle.voice_render.proofs.parameters_fit.Tie as tie
 
+note-fits-requires : tie.Need-note-fits-requires
+note-fits-requires c κs = search needs
+
+unit-fits-requires : tie.Need-unit-fits-requires
+unit-fits-requires c κs = search needs
+
+unit-fits-requires-2 : tie.Need-unit-fits-requires-2
+unit-fits-requires-2 c κs = search needs
+
+unit-fits-requires-3 : tie.Need-unit-fits-requires-3
+unit-fits-requires-3 c κs = search needs
+
 between-requires : tie.Need-between-requires
 between-requires c κs = search needs
 
-between-requires-2 : tie.Need-between-requires-2
-between-requires-2 c κs = search needs
-
-between-requires-3 : tie.Need-between-requires-3
-between-requires-3 c κs = search needs
-
-between-requires-4 : tie.Need-between-requires-4
-between-requires-4 c κs = search needs
-
-between-requires-5 : tie.Need-between-requires-5
-between-requires-5 c κs = search needs
-
-between-requires-6 : tie.Need-between-requires-6
-between-requires-6 c κs = search needs
+unit-fits-requires-4 : tie.Need-unit-fits-requires-4
+unit-fits-requires-4 c κs = search needs
 
 returns : tie.Need-returns
 unfolding parametersFit decimal minusDecimal ofBits neg
 returns c =
-    let at-between3 = c .before .before .before in
-    let at-between2 = at-between3 .before in
-    let at-between = at-between2 .before in
-    rw (c .between6 .ensures, c .before .between5 .ensures, c .before .before .between4 .ensures, at-between3 .between3 .ensures, at-between2 .between2 .ensures, at-between .between .ensures) refl
+    let at-unit-fits3 = c .before .before in
+    let at-unit-fits2 = at-unit-fits3 .before in
+    let at-unit-fits = at-unit-fits2 .before in
+    rw (
+      c .unit-fits4 .ensures,
+      c .before .between .ensures,
+      at-unit-fits3 .unit-fits3 .ensures,
+      at-unit-fits2 .unit-fits2 .ensures,
+      at-unit-fits .unit-fits .ensures,
+      at-unit-fits .before .note-fits .ensures,
+    ) refl
 
 pub parameters-fit-spec : {M : Type 1} → statement M
 parameters-fit-spec =
     tie.close
     (tie.spec
+    note-fits-requires
+    unit-fits-requires
+    unit-fits-requires-2
+    unit-fits-requires-3
     between-requires
-    between-requires-2
-    between-requires-3
-    between-requires-4
-    between-requires-5
-    between-requires-6
+    unit-fits-requires-4
     returns)

@@ -34,8 +34,8 @@ returns-3 c =
     (accepted (at-block-fits .block-fits .ensures) (c .before .before .if2 .left))
     (refused (c .before .parameters-fit .ensures) (c .if3 .taken))
 
-setup-requires : tie.Need-setup-requires
-setup-requires c κs =
+set-up-requires : tie.Need-set-up-requires
+set-up-requires c κs =
     let at-if1 = c .before .before .before .before .before in
     let at-state-fits = at-if1 .before in
     subst T (sym (accepted (at-state-fits .state-fits .ensures) (at-if1 .if1 .left))) tt
@@ -50,7 +50,7 @@ returns-4 c =
     render-blank _ _ _ _ _ _ (accepted (at-state-fits .state-fits .ensures) (at-if1 .if1 .left))
     (accepted (at-block-fits .block-fits .ensures) (at-if2 .if2 .left))
     (accepted (at-parameters-fit .parameters-fit .ensures) (c .before .before .if3 .left)) (c .before .if4 .taken)
-    (c .setup .ensures)
+    (c .set-up .ensures)
 
 render-sounding-requires : tie.Need-render-sounding-requires
 render-sounding-requires c κs =
@@ -87,7 +87,7 @@ render-with-spec =
     returns-2
     parameters-fit-requires
     returns-3
-    setup-requires
+    set-up-requires
     returns-4
     render-sounding-requires
     same-length

@@ -1,38 +1,54 @@
 -- `voice_render::setup` meets its contract. Assumes nothing.
 use borrow.Author.Needs.{needs}
 use borrow.Author.Tests.{not-true, not-false}
-use Rattle.voice.proofs.States.{state-fits, stored}
-use Rattle.voice_render.proofs.Blocks.{count-at-most-6, operators-of, no-setup, set-up}
+use mathlib.Core.Path.{sym, subst}
+use lib.Dec.{T}
+use Rattle.voice.proofs.Tests.{refused, accepted}
+use Rattle.voice_render.proofs.Blocks.{setup-9, setup-clean, setup-dirty, setup-tables}
 use Rattle.voice_render.proofs.setup.Statement.{statement}
 use Rattle.voice_render.proofs.setup.Tie as tie
 
+state-fits-requires : tie.Need-state-fits-requires
+state-fits-requires c κs = search needs
+
 returns : tie.Need-returns
-returns c = no-setup _ _ _ (not-true _ (c .if1 .taken))
-
-pitch-set-requires : tie.Need-pitch-set-requires
-pitch-set-requires c κs = search needs
-
-setup-operators-requires : tie.Need-setup-operators-requires
-setup-operators-requires c κs =
-    let at-if1 = c .before .before .before .before .before .before .before .before .before .before in
-    let at-pre = at-if1 .before .before in
-    let fits = at-pre .pre in (
-      count-at-most-6 _ (state-fits _ fits .count),
-      operators-of _
-          (stored _ fits (not-false _ (at-if1 .if1 .left)) .fits),
-    )
-
-with-setup-requires : tie.Need-with-setup-requires
-with-setup-requires c κs = search needs
+returns c = setup-9 _ _ _ (refused (c .before .state-fits .ensures) (c .if1 .taken))
 
 returns-2 : tie.Need-returns-2
 returns-2 c =
-    let at-pitch-set = c .before .before .before .before .before .before in
-    let at-if1 = at-pitch-set .before .before .before .before .before .before in
-    set-up _ _ _ (not-false _ (at-if1 .if1 .left)) (at-pitch-set .pitch-set .ensures)
-    (c .before .setup-operators .ensures) (c .with-setup .ensures)
+    let at-if1 = c .before .before in
+    setup-clean _ _ _ (accepted (at-if1 .before .state-fits .ensures) (at-if1 .if1 .left)) (not-true _ (c .if2 .taken))
+
+lut-pitch-ratio-high-requires : tie.Need-lut-pitch-ratio-high-requires
+lut-pitch-ratio-high-requires c κs = search needs
+
+lut-pitch-ratio-low-requires : tie.Need-lut-pitch-ratio-low-requires
+lut-pitch-ratio-low-requires c κs = search needs
+
+set-up-requires : tie.Need-set-up-requires
+set-up-requires c κs =
+    let at-if2 = c .before .before .before .before in
+    let at-if1 = at-if2 .before .before in
+    subst T (sym (accepted (at-if1 .before .state-fits .ensures) (at-if1 .if1 .left))) tt
+
+returns-3 : tie.Need-returns-3
+returns-3 c =
+    let at-low = c .before .before .before in
+    let at-high = at-low .before in
+    let at-if2 = at-high .before in
+    let at-if1 = at-if2 .before .before in
+    setup-tables _ (at-high .lut-pitch-ratio-high .ensures) (at-low .lut-pitch-ratio-low .ensures)
+    (setup-dirty _ _ _ (accepted (at-if1 .before .state-fits .ensures) (at-if1 .if1 .left))
+    (not-false _ (at-if2 .if2 .left)) (c .set-up .ensures))
 
 pub setup-spec : {M : Type 1} → statement M
 setup-spec =
     tie.close
-    (tie.spec returns pitch-set-requires setup-operators-requires with-setup-requires returns-2)
+    (tie.spec
+    state-fits-requires
+    returns
+    returns-2
+    lut-pitch-ratio-high-requires
+    lut-pitch-ratio-low-requires
+    set-up-requires
+    returns-3)

@@ -35,7 +35,9 @@ pub const ENTRIES: &[Entry] = &[
             compiled.write(answer);
         },
     )
-    .drawn(tables)
+    .drawn(|draw| {
+        tables(draw);
+    })
     .every(8 + 32, |nth, draw| {
         draw.u8(if nth < 8 { 4 } else { 6 });
         draw.bytes(&if nth < 8 { OPCODES_4_8.concat() } else { OPCODES_6_32.concat() });
@@ -107,6 +109,42 @@ pub const ENTRIES: &[Entry] = &[
         draw.u8((nth / 200) as u8);
         draw.u32((nth % 200) as u32);
     }),
+    entry(0x70, "is_plan_of", &[U8, U8s(6), U8s(31)], "bool", |given, registers, answer| {
+        let (operators, row, plan) = (given.u8() as usize, given.u8s::<6>(), normal(given.u8s()));
+        let compiled = counted(operators).then(|| planned(registers, operators, &row[..operators]));
+        answer.bool(compiled.is_some_and(|compiled| compiled.number == 0 && compiled.bytes() == plan));
+    })
+    .drawn(plans)
+    .every((8 + 32) * CHANGES, every_plan),
+    entry(0x71, "row_is_modulator", &[U8, Bytes, U32, U32], "u8 number, bool", |given, registers, answer| {
+        let (operators, table, row, operator) = (given.u8() as usize, given.bytes(), given.usize(), given.usize());
+        let fits = tabled(operators, &table, row) && operator < operators;
+        let modulates = fits && {
+            let opcodes = &table[row * operators..][..operators];
+            match operators {
+                4 => modulates(&mut registers.rows_4, row, opcodes.try_into().unwrap(), operator),
+                _ => modulates(&mut registers.rows_6, row, opcodes.try_into().unwrap(), operator),
+            }
+        };
+        answer.name("number").u8(if fits { 0 } else { 2 });
+        answer.name("modulates").bool(modulates);
+    })
+    .drawn(|draw| {
+        let operators = tables(draw) as u32;
+        let operator = match draw.below(8) {
+            0 => draw.any_u32(),
+            1 => operators,
+            _ => draw.below(operators),
+        };
+        draw.u32(operator);
+    })
+    .every(9 * 5 + 33 * 7, |nth, draw| {
+        let (operators, nth) = if nth < 9 * 5 { (4, nth) } else { (6, nth - 9 * 5) };
+        draw.u8(operators);
+        draw.bytes(&if operators == 4 { OPCODES_4_8.concat() } else { OPCODES_6_32.concat() });
+        draw.u32((nth / (operators as u64 + 1)) as u32);
+        draw.u32((nth % (operators as u64 + 1)) as u32);
+    }),
 ];
 
 /// All rows of four that differ in meaningful bits, and so many rows of six.
@@ -124,6 +162,14 @@ pub struct Planned {
 }
 
 impl Planned {
+    /// The plan's bytes, zero for a refused row.
+    pub fn bytes(&self) -> [u8; 31] {
+        let mut plan = [0; 31];
+        plan[0] = self.calls.len() as u8;
+        plan[1..].chunks_exact_mut(5).zip(&self.calls).for_each(|(place, call)| place.copy_from_slice(call));
+        plan
+    }
+
     fn write(&self, answer: &mut Answer) {
         answer.name("calls").u8(self.calls.len() as u8);
         for place in 0..6 {
@@ -181,6 +227,12 @@ fn compiled<const N: usize>(table: &mut Algorithms<N, 32>, row: [u8; N]) -> Plan
         first += length;
     }
     Planned { number: 0, at: 0, calls }
+}
+
+/// Whether an operator of the row put in modulates others, as the Rust says it.
+fn modulates<const N: usize>(table: &mut Algorithms<N, 32>, row: usize, opcodes: [u8; N], operator: usize) -> bool {
+    put_row(table, row, opcodes);
+    table.is_modulator(row as u32, operator as u32)
 }
 
 /// The printer's text for one raw row.
@@ -244,8 +296,8 @@ fn sensible(draw: &mut Draw, length: usize) -> Vec<u8> {
     row
 }
 
-/// Operators, a table of whole rows or nearly, and a row number in it or past it.
-fn tables(draw: &mut Draw) {
+/// Operators, which are handed back, a table of whole rows or nearly, and a row number in it or past it.
+fn tables(draw: &mut Draw) -> u8 {
     let operators = operators(draw);
     let rows = draw.one_of(&[0, 1, 1, 2, 2, 3, 8, 31, 32, 33]);
     let width = if counted(operators as usize) { operators as usize } else { 4 };
@@ -261,6 +313,53 @@ fn tables(draw: &mut Draw) {
     draw.u8(operators);
     draw.bytes(&table);
     draw.u32(place);
+    operators
+}
+
+/// A row's plan as the Rust compiles it; zeros for operators other than 4 and 6.
+fn plan_of(operators: u8, row: &[u8]) -> Planned {
+    match operators {
+        4 => compiled(&mut Algorithms::<4, 32>::new(), row[..4].try_into().unwrap()),
+        6 => compiled(&mut Algorithms::<6, 32>::new(), row[..6].try_into().unwrap()),
+        _ => refused(2, 0),
+    }
+}
+
+/// Operators, a row that is mostly accepted, and its plan; half of them with a byte or an opcode's bit changed.
+fn plans(draw: &mut Draw) {
+    let operators = operators(draw);
+    let mut row = row(draw, 6);
+    for _ in 0..4 {
+        if plan_of(operators, &row).number != 0 {
+            row = sensible(draw, 6);
+        }
+    }
+    let mut plan = plan_of(operators, &row).bytes();
+    match draw.below(4) {
+        0 => plan[draw.below(31) as usize] = draw.any_u8(),
+        1 => row[draw.below(6) as usize] ^= 1 << draw.below(8),
+        _ => (),
+    }
+    draw.u8(operators);
+    row.into_iter().chain(plan).for_each(|byte| draw.u8(byte));
+}
+
+/// A row and its plan as they are, and with each of their bits changed.
+const CHANGES: u64 = 1 + 8 * (6 + 31);
+
+/// The built-in rows with their plans, and all these changes.
+fn every_plan(nth: u64, draw: &mut Draw) {
+    let (place, change) = ((nth / CHANGES) as usize, (nth % CHANGES) as usize);
+    let operators = if place < 8 { 4 } else { 6 };
+    let mut row = if place < 8 { OPCODES_4_8[place].to_vec() } else { OPCODES_6_32[place - 8].to_vec() };
+    row.resize(6, 0);
+    let plan = plan_of(operators, &row).bytes();
+    let mut bytes: Vec<u8> = row.into_iter().chain(plan).collect();
+    if change > 0 {
+        bytes[(change - 1) / 8] ^= 1 << ((change - 1) % 8);
+    }
+    draw.u8(operators);
+    bytes.into_iter().for_each(|byte| draw.u8(byte));
 }
 
 /// Two plans, mostly equal but for at most one byte.

@@ -137,6 +137,39 @@ pub const ENTRIES: &[Entry] = &[
     })
     .with_state()
     .weight(4),
+    entry(0x74, "envelope_set", &[F32s(4), F32s(4)], STATE, |given, registers, answer| {
+        let (increment, level) = (given.f32s(), given.f32s());
+        let number = stage(registers);
+        if number == 0 {
+            registers.envelope.0.set(&increment, &level);
+        }
+        answer.name("number").u8(number);
+        forms::envelope(answer, &mut registers.envelope.0);
+    })
+    .drawn(|draw| {
+        let wild = draw.one_in(3);
+        for place in 2..10 {
+            let x = own(draw, place, wild);
+            draw.f32(x);
+        }
+    })
+    .with_state()
+    .weight(2),
+    entry(0x75, "current_value", &[Bool], "u8 number, f32", |given, registers, answer| {
+        let reshape = given.bool();
+        let number = stage(registers);
+        let envelope = &registers.envelope.0;
+        let value = match number {
+            0 if reshape => envelope.current_value(),
+            0 => other::<true, false>(envelope).current_value(),
+            _ => 0.0,
+        };
+        answer.name("number").u8(number);
+        answer.name("value").f32(value);
+    })
+    .every(2, |nth, draw| draw.u8(nth as u8))
+    .with_state()
+    .weight(4),
 ];
 
 const RENDER: &str = "u8 number, f32, the envelope; the bools are: an operator's, gate";
@@ -181,15 +214,20 @@ fn states(draw: &mut Draw) {
     draw.u32(stage);
     let wild = draw.one_in(3);
     for place in 0..11 {
-        let x = match place {
-            _ if wild => float(draw),
-            1 if draw.one_in(2) => -100.0,
-            2..=5 => draw.unit() * draw.one_of(&[1.0, 0.1, 0.001, 0.2]),
-            6..=9 => draw.unit() * draw.one_of(&[1.0, 8.0, 16.0]),
-            10 => scale(draw),
-            _ => draw.unit(),
-        };
+        let x = own(draw, place, wild);
         draw.f32(x);
+    }
+}
+
+/// An envelope's own float by its place in the state: phase, start, increments, levels, scale.
+fn own(draw: &mut Draw, place: usize, wild: bool) -> f32 {
+    match place {
+        _ if wild => float(draw),
+        1 if draw.one_in(2) => -100.0,
+        2..=5 => draw.unit() * draw.one_of(&[1.0, 0.1, 0.001, 0.2]),
+        6..=9 => draw.unit() * draw.one_of(&[1.0, 8.0, 16.0]),
+        10 => scale(draw),
+        _ => draw.unit(),
     }
 }
 

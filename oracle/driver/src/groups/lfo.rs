@@ -32,7 +32,7 @@ pub const ENTRIES: &[Entry] = &[
         let number = if (8_000.0..=192_000.0).contains(&sample_rate) { 0 } else { 5 };
         match number {
             0 => registers.lfo.init(sample_rate),
-            _ => registers.lfo = Lfo::new(),
+            _ => registers.lfo = nothing(),
         }
         answer.name("number").u8(number);
         write(answer, registers);
@@ -125,7 +125,14 @@ fn write(answer: &mut Answer, registers: &mut Registers) {
     answer.name("generator's number").u32(random::state());
 }
 
-/// 9 for a state that no call hands back.
+/// What a refused start hands out: zeros, but for a phase that every other entry refuses with 9.
+fn nothing() -> Lfo {
+    let mut lfo = Lfo::new();
+    lfo.phase = 1.0;
+    lfo
+}
+
+/// 9 for a state that no accepted call hands back.
 fn state(lfo: &Lfo) -> u8 {
     let phase = lfo.phase >= 0.0 && lfo.phase < 1.0;
     if phase && lfo.frequency >= 0.0 && lfo.frequency.is_finite() { 0 } else { 9 }

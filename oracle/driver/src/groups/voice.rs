@@ -1,6 +1,7 @@
 //! The voice. The Rust's voice renders, with the row that was set put into its table. What it has no words for (the
 //! number of operators, the row, the plan) is kept beside it, and every refusal is decided here from the rules
-//! (docs/RULES.md): a block gets 9, 8, 7, a patch 9, 6, 2, 3, 4, taking it out 9, starting 2, 5.
+//! (docs/RULES.md): a block gets 9, 8, 7, a patch 9, 6, 2, 3, 4, starting 2, 5, and taking the patch out, setting up
+//! and asking for the patch 9.
 
 use crate::entry::draw::Draw;
 use crate::entry::registers::Registers;
@@ -172,6 +173,22 @@ pub const ENTRIES: &[Entry] = &[
     .drawn(seeds)
     .with_state()
     .weight(64),
+    entry(0x8b, "voice_setup", &[], "u8 number, bool it was dirty, the voice", |_, registers, answer| {
+        let (number, dirty) = set_up(registers);
+        answer.name("number").u8(number);
+        answer.name("was dirty").bool(dirty);
+        registers.voice.form(answer);
+    })
+    .with_state()
+    .weight(2),
+    entry(0x8c, "voice_patch", &[], "u8 number, bool it has one, the patch", |_, registers, answer| {
+        let (number, patch) = patch_of(registers);
+        answer.name("number").u8(number);
+        answer.name("has a patch").bool(patch.is_some());
+        forms::patch(answer, &mut patch.unwrap_or_else(Patch::new));
+    })
+    .with_state()
+    .weight(1),
 ];
 
 const BENT: &str =
@@ -248,10 +265,7 @@ fn state(registers: &mut Registers) -> u8 {
 /// A row's number, the operator named, and its plan.
 fn plan(registers: &mut Registers, operators: usize, row: &[u8]) -> (u8, u8, [u8; 31]) {
     let planned = planned(registers, operators, row);
-    let mut plan = [0; 31];
-    plan[0] = planned.calls.len() as u8;
-    plan[1..].chunks_exact_mut(5).zip(&planned.calls).for_each(|(place, call)| place.copy_from_slice(call));
-    (planned.number, planned.at, plan)
+    (planned.number, planned.at, planned.bytes())
 }
 
 fn set(registers: &mut Registers, answer: &mut Answer, patch: Patch, table: &[u8]) {
@@ -289,6 +303,26 @@ fn take(registers: &mut Registers) -> u8 {
         (registers.voice.patch, registers.voice.row, registers.voice.plan) = (Patch::new(), [0; 6], [0; 31]);
     }
     number
+}
+
+/// Sets a dirty voice up, and says whether it was dirty.
+fn set_up(registers: &mut Registers) -> (u8, bool) {
+    let number = state(registers);
+    let mut dirty = false;
+    if number == 0 {
+        on_rust!(registers, |voice, _| dirty = voice.setup());
+    }
+    (number, dirty)
+}
+
+/// The patch that the voice has.
+fn patch_of(registers: &mut Registers) -> (u8, Option<Patch>) {
+    let number = state(registers);
+    let mut patch = None;
+    if number == 0 {
+        on_rust!(registers, |voice, _| patch = voice.patch().cloned());
+    }
+    (number, patch)
 }
 
 /// The Rust's table for so many operators, 0 for the voice's own number; an empty one for another number.

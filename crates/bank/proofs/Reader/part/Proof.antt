@@ -43,7 +43,7 @@ use denote.Triple.Table.{entered, cited}
 use denote.Triple.Walked.{says, Stays, stay-none, walkOf, goes-none, Walks, ends-at, walked, walk-meets}
 use denote.Exit.{yes}
 use denote.Triple.Clauses.{ensured, lasts}
-use Rattle.bank.specs.Bank.{partOf}
+use Rattle.bank.specs.Bank.{Handed}
 use Rattle.bank.specs.declared.Reader.{Reader}
 use Rattle.bank.proofs.Readers.{D, L, fields}
 use Rattle.bank.proofs.Reader as T
@@ -77,8 +77,9 @@ module _ {M : Type 1} (𝓤 : URA M) (H : Heap 𝓤) (A : Atoms 𝓤) (W : Given
   abbrev v : Val
   v = sliceVal (d .dump .ptr) (length (d .dump .now))
 
-  abbrev found : List ℕ
-  found = partOf (now (d .dump)) (d .slot)
+  -- what is said of the part
+  abbrev Found : RefT (List ℕ) → Type 0
+  Found r = Handed (d .dump) (d .slot) r
 
   -- the type of a part
   abbrev R : RattleType
@@ -116,12 +117,12 @@ module _ {M : Type 1} (𝓤 : URA M) (H : Heap 𝓤) (A : Atoms 𝓤) (W : Given
       move ! (2 ∷ 0 ∷ []) $ use2 W (raw (PartAt 𝓤 H A mem run .pre to)) asked $ frame ! $ done !)
 
   -- of the callee's `ensured`, the clause alone: it has no `&mut`, so what is said of last values is dropped
-  said : (r : RefT (List ℕ)) → ent 𝓤 (ensured 𝓤 H A callee.ended (callee.clauses 𝓤 H A mem run) (κ, tt) (d .dump, (d .slot, tt)) tt r) (fact 𝓤 (now r ≡ found))
+  said : (r : RefT (List ℕ)) → ent 𝓤 (ensured 𝓤 H A callee.ended (callee.clauses 𝓤 H A mem run) (κ, tt) (d .dump, (d .slot, tt)) tt r) (fact 𝓤 (Found r))
   said r =
       exE 𝓤 _
-      (λ ws. snd∗ 𝓤 (sem 𝓤 H A (lasts callee.ended (κ, tt) (d .dump, (d .slot, tt)) ws)) (fact 𝓤 (now r ≡ found)))
+      (λ ws. snd∗ 𝓤 (sem 𝓤 H A (lasts callee.ended (κ, tt) (d .dump, (d .slot, tt)) ws)) (fact 𝓤 (Found r)))
 
-  exits : (r : RefT (List ℕ)) (u : Val) → now r ≡ found
+  exits : (r : RefT (List ℕ)) (u : Val) → Found r
       → ent 𝓤 (⋆ 𝓤 H A (‵ (R .own r (u ∷ [])) ∷ (‵ (flft κ q) ⊛ ‵ ftrue) ∷ ‵ Own ∷ [])) (Post u)
   exits r u e =
       qed W (‵ (R .own r (u ∷ [])) ∷ (‵ (flft κ q) ⊛ ‵ ftrue) ∷ ‵ Own ∷ []) ∵
@@ -138,7 +139,7 @@ module _ {M : Type 1} (𝓤 : URA M) (H : Heap 𝓤) (A : Atoms 𝓤) (W : Given
         move ! (8 ∷ []) $ use1 W (raw (PartAt 𝓤 H A mem run .pre to) ⊛ ‵ Own) (apart (wt .1 .1 .0 .fits)) $ split ! $
         calls-at ! fm (PartAt 𝓤 H A mem run) known to (and-then ! (load ! (from ! (stop !)) (look ! 4 refl)) (and-then ! (load ! (from ! (stop !)) (look ! 2 refl)) (no-more !))) (λ u.
         use1 W (later (some (λ (r : RefT (List ℕ)). ((‵ (flft κ q) ⊛ ‵ ftrue) ⊛ ‵ (R .own r (u ∷ []))) ⊛ raw (ensured 𝓤 H A callee.ended (callee.clauses 𝓤 H A mem run) (κ, tt) (d .dump, (d .slot, tt)) tt r)))) (id⊢ 𝓤 _) $ await ! tt $ pick ! (λ r.
-        split ! $ move ! (1 ∷ []) $ use1 W (raw (fact 𝓤 (now r ≡ found))) (said r) $ heard ! (now r ≡ found) (λ e. split ! $ move ! (1 ∷ []) $
+        split ! $ move ! (1 ∷ []) $ use1 W (raw (fact 𝓤 (Found r))) (said r) $ heard ! (Found r) (λ e. split ! $ move ! (1 ∷ []) $
         -- [the result; the token; what the struct owns; _3; …; _2; …; _1; …; room for _0; …]
         peeks ! R (Is R) (shows 𝓤 H A R) r (u ∷ []) (λ is.
         land ! (from ! (stop !)) (init ! 9 refl (shr-slice-lawful 𝓤 H A W (named 0) κ u8 .typed r (u ∷ []) is .0)) $

@@ -1,0 +1,12 @@
+-- `bank::in_row` meets its contract. Assumes nothing.
+use mathlib.Core.Path.{refl}
+use Rattle.bank.specs.Dump.{inRow}
+use Rattle.bank.proofs.in_row.Statement.{statement}
+use Rattle.bank.proofs.in_row.Tie as tie
+
+returns : tie.Need-returns
+unfolding inRow
+returns c = refl
+
+pub in-row-spec : {M : Type 1} → statement M
+in-row-spec = tie.close (tie.spec returns)

@@ -1,0 +1,2 @@
+-- settled answers
+pub mod Settled
