@@ -6,7 +6,7 @@ use native.Mathlib.Nat.{suc-mul}
 use native.Mathlib.Omega.{arith}
 use lib.ListN.{length, take, drop, length-take, length-drop}
 use lib.Seq.{take-add, drop-drop}
-use Rattle.bank.specs.Dump.{dataOf}
+use Rattle.dump.specs.Dump.{yamahaForm, dataOf}
 use Rattle.bank.specs.Bank.{bankForm, validateOf, slotOf, partOf, partsOf}
 use Rattle.bank.proofs.Numbers.{sound-length, slot-sound}
 
@@ -33,5 +33,5 @@ module _ (dump : List ℕ) (sound : validateOf dump ≡ 0) where
       ∙ ap (λ (k : ℕ). take k (drop 6 dump)) (sym (suc-mul n 128))
 
   pub parts-are-data : partsOf dump 32 ≡ dataOf bankForm dump
-  unfolding dataOf bankForm
+  unfolding dataOf bankForm yamahaForm
   parts-are-data = first-parts 32 (omega arith)

@@ -1,28 +1,19 @@
--- A bank, a dump of 32 packed patches: its form, the number it gets and the part of a slot. Definitions only, all to be
--- believed.
+-- A bank, a dump of 32 packed patches: its form, the number it gets, its channel and the part of a slot. Definitions
+-- only, all to be believed.
 use mathlib.Core.Path.{_≡_}
 use mathlib.Core.Bool.{cond}
-use mathlib.Core.List.{List, [], _∷_, _++_}
+use mathlib.Core.List.{List, [], _++_}
 use Prim.Native.Nat.{ℕ, zero, suc, _+_, _*_}
 use lib.ListN.{take, drop}
 use lib.Dec.{eqb, leb}
 use denote.Ref.{RefT, now, ptr}
-use Rattle.bank.specs.declared.Row.{Row}
-use Rattle.bank.specs.declared.Form.{Form}
-use Rattle.bank.specs.Dump.{dumpNumber}
+use Rattle.dump.specs.declared.Form.{Form}
+use Rattle.dump.specs.declared.Opened.{Opened}
+use Rattle.dump.specs.Dump.{yamahaForm, dumpNumber, openedOf}
 
-abbrev row : ℕ → ℕ → Row
-row from to = record { from = from; to = to }
-
--- THE FORM: F0 43 00 09 20 00, 4,096 data bytes, the checksum, F7
+-- THE FORM: F0 43 0n 09 20 00, n the channel, 4,096 data bytes, the checksum, F7
 unfoldable pub bankForm : Form
-bankForm = record {
-  header =
-      row 0xF0 0xF0 ∷ row 0x43 0x43 ∷ row 0x00 0x00
-      ∷ row 0x09 0x09 ∷ row 0x20 0x20 ∷ row 0x00 0x00 ∷ [];
-  count = 4096;
-  last = row 0xF7 0xF7;
-}
+bankForm = yamahaForm 0x09 0x20 0x00 4096
 
 -- the number of a bank's dump
 unfoldable pub validateOf : List ℕ → ℕ
@@ -31,6 +22,10 @@ validateOf dump = dumpNumber bankForm dump
 -- the number of a dump and a slot: 2 for a slot above 31, before the dump's
 unfoldable pub numberOf : List ℕ → ℕ → ℕ
 numberOf dump slot = cond (leb slot 31) (validateOf dump) 2
+
+-- what one who opens a bank gets: its number, and its channel, which is 0 where the number is not 0
+unfoldable pub channelOf : List ℕ → Opened
+channelOf dump = openedOf bankForm dump
 
 -- the 128 bytes of a slot
 unfoldable pub slotOf : List ℕ → ℕ → List ℕ

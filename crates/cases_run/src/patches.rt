@@ -5,7 +5,7 @@ use crate::line;
 use patch::Patch;
 
 // A sound dump of zeros.
-fn dump() -> [u8; 4104] {
+fn sound_dump() -> [u8; 4104] {
     let mut d = [0u8; 4104];
     d[0] = 0xF0;
     d[1] = 0x43;
@@ -19,7 +19,7 @@ fn dump() -> [u8; 4104] {
 fn with(going: bool, text: &[u8], place: usize, b: u8) -> bool
     requires { ⌜ place < 4104 ⌝ }
 {
-    let mut d = dump();
+    let mut d = sound_dump();
     d[place] = b;
     line(going, text, bank::validate(&d) as u64)
 }
@@ -99,13 +99,13 @@ fn checksums(going: bool) -> bool {
     let zeros = [0u8; 4096];
     let mut data = [0u8; 4096];
     data[0] = 1;
-    let a = line(going, b"checksum of zeros: ", bank::checksum(&zeros) as u64);
-    line(a, b"checksum of a single 1: ", bank::checksum(&data) as u64)
+    let a = line(going, b"checksum of zeros: ", dump::checksum(&zeros) as u64);
+    line(a, b"checksum of a single 1: ", dump::checksum(&data) as u64)
 }
 
 fn lengths(going: bool) -> bool {
     let short = [0u8; 4103];
-    let sound = dump();
+    let sound = sound_dump();
     let long = [0u8; 4105];
     let a = line(
         going,
@@ -119,11 +119,30 @@ fn lengths(going: bool) -> bool {
 fn frame(going: bool) -> bool {
     let a = with(going, b"frame byte 0 damaged: ", 0, 0xF1);
     let b = with(a, b"frame byte 1 damaged: ", 1, 0x44);
-    let c = with(b, b"frame byte 2 damaged: ", 2, 0x01);
+    let c = with(b, b"frame byte 2 damaged: ", 2, 0x10);
     let d = with(c, b"frame byte 3 damaged: ", 3, 0x08);
     let e = with(d, b"frame byte 4 damaged: ", 4, 0x21);
     let f = with(e, b"frame byte 5 damaged: ", 5, 0x80);
     with(f, b"last byte damaged: ", 4103, 0xF6)
+}
+
+// The number and the channel of that dump with another third byte and another checksum.
+fn opened(going: bool, number: &[u8], channel: &[u8], third: u8, sum: u8) -> bool {
+    let mut d = sound_dump();
+    d[2] = third;
+    d[4102] = sum;
+    let r = bank::channel(&d);
+    let a = line(going, number, r.number as u64);
+    line(a, channel, r.channel as u64)
+}
+
+fn channels(going: bool) -> bool {
+    let a = opened(going, b"third byte 00: ", b"its channel: ", 0x00, 0);
+    let b = opened(a, b"third byte 03: ", b"its channel: ", 0x03, 0);
+    let c = opened(b, b"third byte 0F: ", b"its channel: ", 0x0F, 0);
+    let d = opened(c, b"third byte 10: ", b"its channel: ", 0x10, 0);
+    let e = opened(d, b"third byte FF: ", b"its channel: ", 0xFF, 0);
+    opened(e, b"third byte 03, checksum 1: ", b"its channel: ", 0x03, 1)
 }
 
 fn contents(going: bool) -> bool {
@@ -135,7 +154,7 @@ fn contents(going: bool) -> bool {
 }
 
 fn slots(going: bool) -> bool {
-    let sound = dump();
+    let sound = sound_dump();
     let short = [0u8; 7];
     let a = line(going, b"slot 31: ", bank::number(&sound, 31) as u64);
     let b = line(a, b"slot 32: ", bank::number(&sound, 32) as u64);
@@ -157,8 +176,9 @@ fn dumps(going: bool) -> bool {
     let a = checksums(going);
     let b = lengths(a);
     let c = frame(b);
-    let d = contents(c);
-    slots(d)
+    let d = channels(c);
+    let e = contents(d);
+    slots(e)
 }
 
 pub fn run(going: bool) -> bool {

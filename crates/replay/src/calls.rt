@@ -11,7 +11,7 @@ pub struct Answered {
 // The length of the call at the script's start, by its entry; 0 for no entry.
 fn call_length(entry: u8, script: &[u8]) -> usize {
     match entry {
-        0x24..=0x28 => judge_banks::length(entry, script),
+        0x24..=0x28 | 0x2a => judge_banks::length(entry, script),
         0x20..=0x2f => judge_patches::length(entry, script),
         0x50..=0x57 | 0x70..=0x72 => judge_rows::length(entry, script),
         0x58..=0x5f | 0x74..=0x77 => judge_envelopes::length(entry),
@@ -24,7 +24,7 @@ fn call_length(entry: u8, script: &[u8]) -> usize {
 // Writes what the call answers from place 5 on, and answers the place behind it.
 fn body(entry: u8, script: &[u8], registers: &mut [u8], out: &mut [u8]) -> usize {
     match entry {
-        0x24..=0x28 => judge_banks::answer(entry, script, out),
+        0x24..=0x28 | 0x2a => judge_banks::answer(entry, script, out),
         0x20..=0x2f => judge_patches::answer(entry, script, registers, out),
         0x50..=0x57 | 0x70..=0x72 => judge_rows::answer(entry, script, out),
         0x58..=0x5f | 0x74..=0x77 => judge_envelopes::answer(entry, script, registers, out),

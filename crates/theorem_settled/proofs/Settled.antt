@@ -28,10 +28,12 @@ use Rattle.dx_units.proofs.frequency_ratio as frequency-ratio
 use Rattle.patch.proofs.unpack as patch-unpack
 use Rattle.patch_limits.proofs.check as patch-limits-check
 use Rattle.patch_packer.proofs.pack as patch-packer-pack
-use Rattle.bank.proofs.checksum as bank-checksum
+use Rattle.dump.proofs.checksum as dump-checksum
 use Rattle.bank.proofs.validate as bank-validate
 use Rattle.bank.proofs.number as bank-number
+use Rattle.bank.proofs.channel as bank-channel
 use Rattle.bank.proofs.Reader.number as bank-reader-number
+use Rattle.bank.proofs.Reader.channel as bank-reader-channel
 use Rattle.algorithms.proofs.compile as algorithms-compile
 use Rattle.algorithms.proofs.compile_row as algorithms-compile-row
 use Rattle.algorithms.proofs.is_modulator as algorithms-is-modulator
@@ -154,8 +156,8 @@ module _ {M : Type 1} (𝓤 : URA M) (H : Heap 𝓤) (A : Atoms 𝓤) (mem : Mem
 
   -- ---- banks
 
-  pub bank-checksum-settled : Settled 𝓤 bank-checksum.ended (bank-checksum.clauses 𝓤 H A mem run)
-  bank-checksum-settled κs a g z y ws vs = equal 𝓤 _ z y refl
+  pub dump-checksum-settled : Settled 𝓤 dump-checksum.ended (dump-checksum.clauses 𝓤 H A mem run)
+  dump-checksum-settled κs a g z y ws vs = equal 𝓤 _ z y refl
 
   pub bank-validate-settled : Settled 𝓤 bank-validate.ended (bank-validate.clauses 𝓤 H A mem run)
   bank-validate-settled κs a g z y ws vs = equal 𝓤 _ z y refl
@@ -163,8 +165,14 @@ module _ {M : Type 1} (𝓤 : URA M) (H : Heap 𝓤) (A : Atoms 𝓤) (mem : Mem
   pub bank-number-settled : Settled 𝓤 bank-number.ended (bank-number.clauses 𝓤 H A mem run)
   bank-number-settled κs a g z y ws vs = equal 𝓤 _ z y refl
 
+  pub bank-channel-settled : Settled 𝓤 bank-channel.ended (bank-channel.clauses 𝓤 H A mem run)
+  bank-channel-settled κs a g z y ws vs = equal 𝓤 _ z y refl
+
   pub bank-reader-number-settled : Settled 𝓤 bank-reader-number.ended (bank-reader-number.clauses 𝓤 H A mem run)
   bank-reader-number-settled κs a g z y ws vs = equal 𝓤 _ z y refl
+
+  pub bank-reader-channel-settled : Settled 𝓤 bank-reader-channel.ended (bank-reader-channel.clauses 𝓤 H A mem run)
+  bank-reader-channel-settled κs a g z y ws vs = equal 𝓤 _ z y refl
 
   -- ---- rows
 

@@ -43,7 +43,7 @@ fn run() -> Result<bool, String> {
         "entries" => written(table::print()),
         "smoke" => Ok(smoke::smoke()),
         "compare" if !options.program.is_empty() => compare::compare(&options),
-        "corpus" => written(io::stdout().write_all(&identify::corpus::corpus())),
+        "corpus" => written(io::stdout().write_all(&identify::corpus::corpus(0))),
         "identifiers" => written(identify::answer()),
         "identify" if !options.program.is_empty() => identify::compare(&options),
         "order" if !options.program.is_empty() => identify::order(&options),

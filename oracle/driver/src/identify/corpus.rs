@@ -72,7 +72,8 @@ fn patch(slot: u8) -> Patch {
     patch
 }
 
-pub fn corpus() -> Vec<u8> {
+/// The bank on a channel; the gate holds that of channel 0.
+pub fn corpus(channel: u8) -> Vec<u8> {
     let data: Vec<u8> = (0..32).flat_map(|slot| pack(&patch(slot))).collect();
-    bank(&data)
+    bank(channel, &data)
 }

@@ -2,6 +2,7 @@
 
 use crate::entry::draw::Draw;
 use crate::groups::bank::{bank, validate};
+use crate::identify::corpus::corpus;
 
 /// A packed patch: any bytes below `end`, with an LFO that is mostly heard within the notes.
 fn packed(draw: &mut Draw, end: u32) -> [u8; 128] {
@@ -26,12 +27,14 @@ fn packed(draw: &mut Draw, end: u32) -> [u8; 128] {
 pub fn random_bank(draw: &mut Draw) -> Vec<u8> {
     let end = draw.one_of(&[100, 128]);
     let patches: Vec<u8> = (0..32).flat_map(|_| packed(draw, end)).collect();
-    bank(&patches)
+    bank(draw.below(16) as u8, &patches)
 }
 
-/// Inputs in turn: mostly banks, then single patches with any bytes, and inputs that are refused.
+/// Inputs in turn: the corpus on each channel; then mostly banks, single patches with any bytes, and inputs that are
+/// refused.
 pub fn input(draw: &mut Draw, turn: u64) -> Vec<u8> {
     match turn % 8 {
+        _ if turn < 16 => corpus(turn as u8),
         5 => packed(draw, 256).to_vec(),
         6 => {
             let length = draw.one_of(&[0, 1, 127, 129, 4103, 4105, 4106, 20_000]);

@@ -71,7 +71,7 @@ pub fn order(options: &Options) -> Result<bool, String> {
     let (mut patches, mut moved, mut held, mut ours_moved) = (0, 0, 0, 0);
     while patches < options.calls {
         let dump = random_bank(&mut draw);
-        let turned = bank(&slots(&dump).rev().flat_map(|(_, bytes)| bytes.to_vec()).collect::<Vec<u8>>());
+        let turned = bank(0, &slots(&dump).rev().flat_map(|(_, bytes)| bytes.to_vec()).collect::<Vec<u8>>());
         let whole = |(_, bytes)| identifier(&table, &unpacked(bytes), Hidden::LeftAlone);
         random::seed(0x21);
         let there: Vec<u64> = slots(&dump).map(whole).collect();

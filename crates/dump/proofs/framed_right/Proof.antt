@@ -1,11 +1,11 @@
--- `bank::framed_right` meets its contract. Assumes nothing.
+-- `dump::framed_right` meets its contract. Assumes nothing.
 use native.Mathlib.Omega.{arith}
 use borrow.Author.Needs.{needs}
 use lib.ListN.{length-map}
 use denote.Ref.{now}
-use Rattle.bank.proofs.Places.{framed-is}
-use Rattle.bank.proofs.framed_right.Statement.{statement}
-use Rattle.bank.proofs.framed_right.Tie as tie
+use Rattle.dump.proofs.Places.{framed-is}
+use Rattle.dump.proofs.framed_right.Statement.{statement}
+use Rattle.dump.proofs.framed_right.Tie as tie
 
 in-rows-requires : tie.Need-in-rows-requires
 in-rows-requires c κs = search needs

@@ -1,16 +1,16 @@
--- `bank::in_rows` meets its contract. The invariant: what is known of the first i rows and the rest are all of them.
+-- `dump::in_rows` meets its contract. The invariant: what is known of the first i rows and the rest are all of them.
 -- Assumes nothing.
 use mathlib.Core.Path.{_≡_, refl}
 use mathlib.Core.Bool.{_&&_}
 use Prim.Native.Nat.{_-_, _≤_}
 use borrow.Author.Needs.{needs}
 use native.Mathlib.Omega.{arith}
-use lib.ListN.{length, drop}
+use lib.ListN.{drop}
 use denote.Ref.{now}
-use Rattle.bank.specs.Dump.{inRows}
-use Rattle.bank.proofs.Rows.{rows-next, rows-done}
-use Rattle.bank.proofs.in_rows.Statement.{statement}
-use Rattle.bank.proofs.in_rows.Tie as tie
+use Rattle.dump.specs.Dump.{inRows}
+use Rattle.dump.proofs.Rows.{rows-next, rows-done}
+use Rattle.dump.proofs.in_rows.Statement.{statement}
+use Rattle.dump.proofs.in_rows.Tie as tie
 
 abbrev Inv-loop : tie.InvT-loop
 Inv-loop dump rows right₀ i₀ right i = (i ≤ 6) × (inRows rows dump 0 ≡ (right && inRows (drop i rows) dump i))

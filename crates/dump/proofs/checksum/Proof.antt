@@ -1,8 +1,8 @@
--- `bank::checksum` meets its contract. The sum completes to 128. Assumes nothing.
+-- `dump::checksum` meets its contract. The sum completes to 128. Assumes nothing.
 use borrow.Author.Needs.{needs}
-use Rattle.bank.specs.Dump.{checksumOf}
-use Rattle.bank.proofs.checksum.Statement.{statement}
-use Rattle.bank.proofs.checksum.Tie as tie
+use Rattle.dump.specs.Dump.{checksumOf}
+use Rattle.dump.proofs.checksum.Statement.{statement}
+use Rattle.dump.proofs.checksum.Tie as tie
 
 tally-requires : tie.Need-tally-requires
 tally-requires c κs = search needs

@@ -1,13 +1,14 @@
--- A dump of any form: its frame, its data, its checksum and the number it gets. A form has a row for each byte before
--- the data, a number of data bytes, and a row for the last byte; the checksum stands between the data and the last
--- byte. Definitions only, all to be believed.
+-- A dump of any form: its frame, its channel, its data, its checksum and the number it gets. A form has a row for each
+-- byte before the data, a number of data bytes, and a row for the last byte; the checksum stands between the data and
+-- the last byte. Definitions only, all to be believed.
 use mathlib.Core.Bool.{Bool, true, cond, _&&_}
 use mathlib.Core.List.{List, [], _∷_}
 use Prim.Native.Nat.{ℕ, suc, _+_, _-_, _%_, max}
-use lib.ListN.{length, getD, take, drop}
+use lib.ListN.{length, getD, take, drop, set}
 use lib.Dec.{eqb, leb, ltb}
-use Rattle.bank.specs.declared.Row.{Row}
-use Rattle.bank.specs.declared.Form.{Form}
+use Rattle.dump.specs.declared.Row.{Row}
+use Rattle.dump.specs.declared.Form.{Form}
+use Rattle.dump.specs.declared.Opened.{Opened}
 
 -- a byte within a row, from its least to its largest number
 unfoldable pub inRow : Row → ℕ → Bool
@@ -17,6 +18,21 @@ inRow r b = leb (r .from) b && leb b (r .to)
 unfoldable pub inRows : List Row → List ℕ → ℕ → Bool
 inRows [] dump k = true
 inRows (r ∷ rs) dump k = inRow r (getD dump k 0) && inRows rs dump (suc k)
+
+-- the row of a fixed byte, and that of the channel: 0n (hex), n from 0 to 15, so the byte's upper half is 0
+abbrev pub fixed : ℕ → Row
+fixed b = record { from = b; to = b }
+
+abbrev pub channelRow : Row
+channelRow = record { from = 0x00; to = 0x0F }
+
+-- YAMAHA'S FRAME: F0 43 0n, a format's number and its data's length in two bytes, the data, the checksum, F7
+unfoldable pub yamahaForm : ℕ → ℕ → ℕ → ℕ → Form
+yamahaForm format high low count = record {
+  header = fixed 0xF0 ∷ fixed 0x43 ∷ channelRow ∷ fixed format ∷ fixed high ∷ fixed low ∷ [];
+  count = count;
+  last = fixed 0xF7;
+}
 
 -- the place of the checksum, and how many bytes the dump has
 unfoldable pub sumPlace : Form → ℕ
@@ -28,6 +44,13 @@ sizeOf f = sumPlace f + 2
 -- every byte of the frame is within its row
 unfoldable pub framed : Form → List ℕ → Bool
 framed f dump = inRows (f .header) dump 0 && inRow (f .last) (getD dump (sumPlace f + 1) 0)
+
+-- the channel is the third byte, and a dump with another channel has another byte there
+unfoldable pub channelByte : List ℕ → ℕ
+channelByte dump = getD dump 2 0
+
+unfoldable pub withChannel : ℕ → List ℕ → List ℕ
+withChannel n dump = set dump 2 n
 
 -- the data bytes, and the checksum behind them
 unfoldable pub dataOf : Form → List ℕ → List ℕ
@@ -60,3 +83,10 @@ dumpNumber f dump =
     (cond (framed f dump)
     (cond (leb (largestOf (dataOf f dump)) 127) (cond (summed (dataOf f dump) (sumByte f dump)) 0 13) 12) 11)
     10
+
+-- what one who opens a dump gets: its number, and its channel, which is 0 where the number is not 0
+unfoldable pub openedOf : Form → List ℕ → Opened
+openedOf f dump = record {
+  number = dumpNumber f dump;
+  channel = cond (eqb (dumpNumber f dump) 0) (channelByte dump) 0;
+}

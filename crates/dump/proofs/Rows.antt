@@ -2,12 +2,12 @@
 use mathlib.Core.Path.{_≡_, sym, _∙_, ap}
 use mathlib.Core.Bool.{Bool, _&&_, and-assoc, and-true}
 use mathlib.Core.List.{List}
-use Prim.Native.Nat.{ℕ, suc, _+_, _<_, _≤_}
+use Prim.Native.Nat.{ℕ, _+_, _<_, _≤_}
 use native.Mathlib.Numerals.{add-one}
 use lib.ListN.{length, getD, drop, drop-of-length-le}
 use lib.Seq.{drop-cons}
-use Rattle.bank.specs.declared.Row.{Row}
-use Rattle.bank.specs.Dump.{inRow, inRows}
+use Rattle.dump.specs.declared.Row.{Row}
+use Rattle.dump.specs.Dump.{inRow, inRows}
 
 module _ (dump : List ℕ) (rows : List Row) where
   -- one row more

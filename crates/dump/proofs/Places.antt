@@ -1,12 +1,12 @@
 -- Where the parts of a form stand that has six bytes before its data. Assumes nothing.
-use mathlib.Core.Path.{_≡_, ap, ap₂}
+use mathlib.Core.Path.{_≡_}
 use mathlib.Core.Bool.{Bool, _&&_}
 use mathlib.Core.List.{List}
 use Prim.Native.Nat.{ℕ, _+_, _-_}
 use native.Mathlib.Nat.{add-sub-cancel-left}
 use lib.ListN.{length, getD, take, drop}
-use Rattle.bank.specs.declared.Form.{Form}
-use Rattle.bank.specs.Dump.{inRow, inRows, sumPlace, sizeOf, framed, dataOf, sumByte}
+use Rattle.dump.specs.declared.Form.{Form}
+use Rattle.dump.specs.Dump.{inRow, inRows, sumPlace, sizeOf, framed, dataOf, sumByte}
 
 module _ (form : Form) (six : length (form .header) ≡ 6) where
   pub size-is : sizeOf form ≡ 6 + form .count + 2

@@ -1,4 +1,4 @@
--- `bank::dump_number` meets its contract. Each test leads to its number. Assumes nothing.
+-- `dump::number` meets its contract. Each test leads to its number. Assumes nothing.
 use mathlib.Core.Path.{_≡_, sym, _∙_, ap}
 use mathlib.Core.Bool.{true}
 use mathlib.Core.List.{List}
@@ -8,13 +8,13 @@ use borrow.Author.Tests.{not-true, not-false}
 use borrow.Author.Needs.{needs}
 use lib.ListN.{length, length-map}
 use denote.Ref.{now}
-use Rattle.bank.specs.declared.Form.{Form}
-use Rattle.bank.specs.Dump.{sizeOf, framed, dataOf, sumByte, total, largestOf}
-use Rattle.bank.proofs.Numbers.{is-10, is-11, is-12, is-13, is-0}
-use Rattle.bank.proofs.Places.{size-is, data-is, sum-byte-is}
-use Rattle.bank.proofs.Sums.{too-high, not-summed, is-summed}
-use Rattle.bank.proofs.dump_number.Statement.{statement}
-use Rattle.bank.proofs.dump_number.Tie as tie
+use Rattle.dump.specs.declared.Form.{Form}
+use Rattle.dump.specs.Dump.{sizeOf, framed, dataOf, sumByte, total, largestOf}
+use Rattle.dump.proofs.Numbers.{is-10, is-11, is-12, is-13, is-0}
+use Rattle.dump.proofs.Places.{size-is, data-is, sum-byte-is}
+use Rattle.dump.proofs.Sums.{too-high, not-summed, is-summed}
+use Rattle.dump.proofs.number.Statement.{statement}
+use Rattle.dump.proofs.number.Tie as tie
 
 -- an array is as long as it is declared
 six : (c : tie.Start) → length (c .args .form .header) ≡ 6
@@ -126,8 +126,8 @@ returns-7 c =
     (omega (arith, sum-byte-is (form k) (six (start k)) (dump k)))
     (omega (arith, sum-byte-is (form k) (six (start k)) (dump k))))
 
-pub dump-number-spec : {M : Type 1} → statement M
-dump-number-spec =
+pub number-spec : {M : Type 1} → statement M
+number-spec =
     tie.close
     (tie.spec
     returns

@@ -2,14 +2,14 @@
 use mathlib.Core.Path.{_≡_, refl, _∙_, ap}
 use mathlib.Core.Bool.{Bool, true, false, _&&_, and-false, and-eq-true-iff}
 use mathlib.Core.List.{List, [], _∷_, _++_}
-use Prim.Native.Nat.{ℕ, _+_, _-_, _%_, _<_, _≤_, max}
+use Prim.Native.Nat.{ℕ, _+_, _%_, _<_, _≤_, max}
 use native.Mathlib.Numerals.{add-one}
 use native.Mathlib.Omega.{arith}
 use borrow.Author.Tests.{eqb-true, ltb-true, eq-eqb, ne-eqb, lt-ltb, le-ltb}
 use lib.Dec.{eqb, ltb}
 use lib.ListN.{length, getD, take}
 use lib.Seq.{take-suc}
-use Rattle.bank.specs.Dump.{total, largestOf, summed, checksumOf}
+use Rattle.dump.specs.Dump.{total, largestOf, summed, checksumOf}
 
 total-snoc : (xs : List ℕ) (b : ℕ) → total (xs ++ (b ∷ [])) ≡ total xs + b
 unfolding total

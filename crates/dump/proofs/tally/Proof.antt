@@ -1,4 +1,4 @@
--- `bank::tally` meets its contract. The invariant: sum and largest are those of the bytes passed. Assumes nothing.
+-- `dump::tally` meets its contract. The invariant: sum and largest are those of the bytes passed. Assumes nothing.
 use mathlib.Core.Path.{_≡_, refl, _∙_, ap}
 use mathlib.Core.List.{List}
 use Prim.Native.Nat.{ℕ, _-_, _<_, _≤_, _%_}
@@ -7,10 +7,10 @@ use borrow.Author.Needs.{needs}
 use lib.ListN.{length, take}
 use lib.Seq.{take-all}
 use denote.Ref.{now}
-use Rattle.bank.specs.Dump.{total, largestOf}
-use Rattle.bank.proofs.Sums.{total-take, largest-take}
-use Rattle.bank.proofs.tally.Statement.{statement}
-use Rattle.bank.proofs.tally.Tie as tie
+use Rattle.dump.specs.Dump.{total, largestOf}
+use Rattle.dump.proofs.Sums.{total-take, largest-take}
+use Rattle.dump.proofs.tally.Statement.{statement}
+use Rattle.dump.proofs.tally.Tie as tie
 
 abbrev Inv-loop : tie.InvT-loop
 Inv-loop s sum₀ largest₀ i₀ sum largest i =
