@@ -21,7 +21,7 @@ module _ (n : ℕ) (dump : List ℕ) where
   module _ (from : channelByte dump ≤ 15) (to : n ≤ 15) where
     pub validate-with : validateOf (withChannel n dump) ≡ validateOf dump
     unfolding validateOf bankForm
-    validate-with = number-with 0x09 0x20 0x00 4096 n dump from to
+    validate-with = number-with 0x09 4096 n dump from to
 
     pub part-with : (slot : ℕ) → partOf (withChannel n dump) slot ≡ partOf dump slot
     unfolding partOf numberOf
@@ -42,20 +42,20 @@ module _ (dump : List ℕ) (sound : validateOf dump ≡ 0) where
   -- the channel of a sound bank is one of sixteen
   pub bank-channel : channelByte dump ≤ 15
   unfolding validateOf bankForm
-  bank-channel = sound-channel 0x09 0x20 0x00 4096 dump sound
+  bank-channel = sound-channel 0x09 4096 dump sound
 
   -- a sound bank with another third byte is sound exactly if that is one of sixteen
   pub exactly-sixteen : (n : ℕ)
       → (validateOf (withChannel n dump) ≡ 0 → n ≤ 15) × (n ≤ 15 → validateOf (withChannel n dump) ≡ 0)
   unfolding validateOf bankForm
   exactly-sixteen n =
-      (sound-sixteen 0x09 0x20 0x00 4096 dump sound n, λ to. validate-with n dump bank-channel to ∙ sound)
+      (sound-sixteen 0x09 4096 dump sound n, λ to. validate-with n dump bank-channel to ∙ sound)
 
   -- and then it has that channel, and the same data and checksum
   pub channel-changed : (n : ℕ) → n ≤ 15 → Changed n dump
   unfolding validateOf channelOf bankForm
   channel-changed n to = record {
-    told = opened-with 0x09 0x20 0x00 4096 dump sound n to;
+    told = opened-with 0x09 4096 dump sound n to;
     parts = parts-with n dump bank-channel to 32 ∙ parts-are-data dump sound;
-    checksum = sum-byte-with 0x09 0x20 0x00 4096 n dump;
+    checksum = sum-byte-with 0x09 4096 n dump;
   }

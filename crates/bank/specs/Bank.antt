@@ -13,7 +13,7 @@ use Rattle.dump.specs.Dump.{yamahaForm, dumpNumber, openedOf}
 
 -- THE FORM: F0 43 0n 09 20 00, n the channel, 4,096 data bytes, the checksum, F7
 unfoldable pub bankForm : Form
-bankForm = yamahaForm 0x09 0x20 0x00 4096
+bankForm = yamahaForm 0x09 4096
 
 -- the number of a bank's dump
 unfoldable pub validateOf : List ℕ → ℕ

@@ -15,7 +15,7 @@ pub const DUMP_SIZE: usize = 4104;
 pub fn bank_form() -> Form
     ensures { λ r. ⌜ r ≡ bankForm ⌝ }
 {
-    dump::yamaha_form(0x09, 0x20, 0x00, 4096)
+    dump::yamaha_form(0x09, 4096)
 }
 
 // The number of a bank's dump.

@@ -15,7 +15,7 @@ use Rattle.dump.specs.Dump.{withChannel, dataOf, sumByte, dumpNumber, op
 use Rattle.dump.proofs.Numbers.{is-10, is-11, sound}
 
 -- a byte is within the channel's row where it is one of sixteen, and else not
-sixteen-row : (b : ℕ) → b ≤ 15 → inRow channelRow b ≡ true
+pub sixteen-row : (b : ℕ) → b ≤ 15 → inRow channelRow b ≡ true
 unfolding inRow
 sixteen-row b h = rw (le-leb 0 b (omega arith)) (le-leb b 15 h)
 
@@ -37,9 +37,9 @@ module _ (n : ℕ) (dump : List ℕ) where
   unfolding channelByte withChannel
   channel-is h = getD-set-same dump 2 n 0 h
 
-module _ (format high low count : ℕ) where
+module _ (format count : ℕ) where
   abbrev form : Form
-  form = yamahaForm format high low count
+  form = yamahaForm format count
 
   long : (dump : List ℕ) → length dump ≡ sizeOf form → 2 < length dump
   unfolding sizeOf sumPlace yamahaForm

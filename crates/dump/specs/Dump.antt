@@ -3,7 +3,7 @@
 -- the last byte. Definitions only, all to be believed.
 use mathlib.Core.Bool.{Bool, true, cond, _&&_}
 use mathlib.Core.List.{List, [], _∷_}
-use Prim.Native.Nat.{ℕ, suc, _+_, _-_, _%_, max}
+use Prim.Native.Nat.{ℕ, suc, _+_, _-_, _/_, _%_, max}
 use lib.ListN.{length, getD, take, drop, set}
 use lib.Dec.{eqb, leb, ltb}
 use Rattle.dump.specs.declared.Row.{Row}
@@ -26,10 +26,12 @@ fixed b = record { from = b; to = b }
 abbrev pub channelRow : Row
 channelRow = record { from = 0x00; to = 0x0F }
 
--- YAMAHA'S FRAME: F0 43 0n, a format's number and its data's length in two bytes, the data, the checksum, F7
-unfoldable pub yamahaForm : ℕ → ℕ → ℕ → ℕ → Form
-yamahaForm format high low count = record {
-  header = fixed 0xF0 ∷ fixed 0x43 ∷ channelRow ∷ fixed format ∷ fixed high ∷ fixed low ∷ [];
+-- YAMAHA'S FRAME: F0 43 0n, a format's number, its data's length in two bytes of seven bits, the high one first, the
+-- data, the checksum, F7
+unfoldable pub yamahaForm : ℕ → ℕ → Form
+yamahaForm format count = record {
+  header =
+      fixed 0xF0 ∷ fixed 0x43 ∷ channelRow ∷ fixed format ∷ fixed (count / 128 % 128) ∷ fixed (count % 128) ∷ [];
   count = count;
   last = fixed 0xF7;
 }

@@ -34,10 +34,10 @@ fn fixed(b: u8) -> Row
     Row { from: b, to: b }
 }
 
-// Yamaha's form: a format's number, the length of its data in two bytes, and that length. The third byte is the
-// channel's, 00 to 0F.
-pub fn yamaha_form(format: u8, high: u8, low: u8, count: usize) -> Form
-    ensures { λ r. ⌜ r ≡ yamahaForm format high low count ⌝ }
+// Yamaha's form: a format's number, and the length of its data, which the header has in two bytes of seven bits. The
+// third byte is the channel's, 00 to 0F.
+pub fn yamaha_form(format: u8, count: usize) -> Form
+    ensures { λ r. ⌜ r ≡ yamahaForm format count ⌝ }
 {
     let channel = Row {
         from: 0x00,
@@ -48,8 +48,8 @@ pub fn yamaha_form(format: u8, high: u8, low: u8, count: usize) -> Form
         fixed(0x43),
         channel,
         fixed(format),
-        fixed(high),
-        fixed(low),
+        fixed((count / 128 % 128) as u8),
+        fixed((count % 128) as u8),
     ];
     Form {
         header,

@@ -7,7 +7,7 @@ use crate::messages;
 use crate::messages::Found;
 use streams::Window;
 
-// A dump and a byte more: with as many waiting, a dump is seen whole, and whether it is all.
+// A dump of 32 patches and a byte more: with as many waiting, a dump is seen whole, and whether it is all.
 const NEEDED: usize = 4105;
 
 // The bytes that wait.
@@ -136,14 +136,27 @@ fn pass_stray(name: &[u8], bytes: &[u8], at: usize, w: Walk) -> Walk
     passed
 }
 
-fn pass_dump(name: &[u8], bytes: &[u8], at: usize, w: Walk) -> Walk
-    requires { ⌜ at ≤ length (now bytes) ⌝ }
-{
-    let dump = messages::dump(bytes, at);
-    let written = lines::print_dump(name, dump, w.place);
-    let mut passed = moved(w, std::num::wrapping_add_usize(at, dump.len()), false, 0);
+// The walk behind a dump.
+fn behind(w: Walk, to: usize, written: bool) -> Walk {
+    let mut passed = moved(w, to, false, 0);
     passed.written = written;
     passed
+}
+
+fn pass_bank(name: &[u8], bytes: &[u8], at: usize, w: Walk) -> Walk
+    requires { ⌜ at ≤ length (now bytes) ⌝ }
+{
+    let dump = messages::dump(bytes, at, bank::DUMP_SIZE);
+    let written = lines::print_dump(name, dump, w.place);
+    behind(w, std::num::wrapping_add_usize(at, dump.len()), written)
+}
+
+fn pass_single(name: &[u8], bytes: &[u8], at: usize, w: Walk) -> Walk
+    requires { ⌜ at ≤ length (now bytes) ⌝ }
+{
+    let dump = messages::dump(bytes, at, single::DUMP_SIZE);
+    let written = lines::print_single(name, dump, w.place);
+    behind(w, std::num::wrapping_add_usize(at, dump.len()), written)
 }
 
 // A message that is no dump has the wrong length for one.
@@ -157,7 +170,8 @@ fn pass_next(name: &[u8], bytes: &[u8], at: usize, w: Walk) -> Walk
     requires { ⌜ at < length (now bytes) ⌝ }
 {
     match messages::beginning(bytes, at) {
-        Found::Dump => pass_dump(name, bytes, at, w),
+        Found::Bank => pass_bank(name, bytes, at, w),
+        Found::Single => pass_single(name, bytes, at, w),
         Found::Message => refuse_message(name, at, w),
         Found::Nothing => pass_stray(name, bytes, at, w),
     }
@@ -215,9 +229,9 @@ fn print_messages(fd: i32, name: &[u8], buffer: &mut [u8], window: Window) -> bo
     w.written
 }
 
-// Whether a file of this length is one patch or one dump, or too short for both.
+// Whether a file of this length is one patch or one dump of either kind, or too short for all.
 fn is_whole(size: usize) -> bool {
-    (size <= patch::SYX_SIZE) | (size == bank::DUMP_SIZE)
+    (size <= patch::SYX_SIZE) | (size == single::DUMP_SIZE) | (size == bank::DUMP_SIZE)
 }
 
 // The lines of a file. The answer says whether every line could be written.

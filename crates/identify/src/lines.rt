@@ -41,11 +41,9 @@ fn print_identifier(name: &[u8], head: &[u8], identifier: u64) -> bool {
 }
 
 // The line of a slot's patch. The answer says whether to go on.
-fn print_patch(name: &[u8], slot: usize, bytes: &[u8]) -> bool
+fn print_patch(name: &[u8], slot: usize, patch: Patch) -> bool
     requires { ⌜ slot < 32 ⌝ }
 {
-    let read = patch::unpack(Patch::new(), bytes);
-    let patch = read.patch;
     let letters = patch.name;
     let columns = head(slot, letters);
     let r = identity::identify(patch);
@@ -56,12 +54,21 @@ fn print_patch(name: &[u8], slot: usize, bytes: &[u8]) -> bool
     print_identifier(name, &columns, r.identifier)
 }
 
+// The line of a packed patch.
+fn print_packed(name: &[u8], slot: usize, bytes: &[u8]) -> bool
+    requires { ⌜ slot < 32 ⌝ }
+{
+    let read = patch::unpack(Patch::new(), bytes);
+    let patch = read.patch;
+    print_patch(name, slot, patch)
+}
+
 fn print_bank(name: &[u8], dump: &[u8]) -> bool
     requires { ⌜ length (now dump) ≡ 4104 ⌝ }
 {
     let mut slot = 0usize;
     while slot < 32 {
-        if !print_patch(name, slot, bank::slot_part(dump, slot)) {
+        if !print_packed(name, slot, bank::slot_part(dump, slot)) {
             return false;
         }
         slot += 1;
@@ -101,6 +108,17 @@ pub fn print_dump(name: &[u8], dump: &[u8], place: u64) -> bool {
     print_bank(name, dump)
 }
 
+// The line of a single-voice dump that begins at a place.
+pub fn print_single(name: &[u8], dump: &[u8], place: u64) -> bool {
+    let read = single::read(Patch::new(), dump);
+    if read.number != 0 {
+        tell_refusal_at(name, read.number, place);
+        return true;
+    }
+    let patch = read.patch;
+    print_patch(name, 0, patch)
+}
+
 // The lines of one patch or one dump.
 pub fn print_whole(name: &[u8], bytes: &[u8]) -> bool {
     if bytes.len() < patch::SYX_SIZE {
@@ -108,7 +126,10 @@ pub fn print_whole(name: &[u8], bytes: &[u8]) -> bool {
         return true;
     }
     if bytes.len() == patch::SYX_SIZE {
-        return print_patch(name, 0, bytes);
+        return print_packed(name, 0, bytes);
+    }
+    if bytes.len() == single::DUMP_SIZE {
+        return print_single(name, bytes, 0);
     }
     print_dump(name, bytes, 0)
 }

@@ -7,11 +7,32 @@ const BEGIN: u8 = 0xF0;
 
 const END: u8 = 0xF7;
 
-// What begins at a byte: a dump of 32 patches, a message that is none, or no message.
+// What begins at a byte: a dump of 32 patches, one of a single voice, a message that is neither, or no message.
 pub enum Found {
-    Dump,
+    Bank,
+    Single,
     Message,
     Nothing,
+}
+
+// Whether the byte that ends a message of this size stands in its place.
+fn ends(bytes: &[u8], at: usize, size: usize) -> bool
+    requires { ⌜ (at < length (now bytes)) × (0 < size) ⌝ }
+{
+    if bytes.len() - at < size {
+        return false;
+    }
+    bytes[at + (size - 1)] == END
+}
+
+// Whether a message whose bytes could end both kinds is of a single voice: its fourth byte, the format's number, is 0.
+fn is_of_format_0(bytes: &[u8], at: usize) -> bool
+    requires { ⌜ at < length (now bytes) ⌝ }
+{
+    if bytes.len() - at < 4 {
+        return false;
+    }
+    bytes[at + 3] == 0
 }
 
 // What begins at a place. The bytes from there on reach to the file's end, or hold a whole dump.
@@ -21,13 +42,15 @@ pub fn beginning(bytes: &[u8], at: usize) -> Found
     if bytes[at] != BEGIN {
         return Found::Nothing;
     }
-    if bytes.len() - at < bank::DUMP_SIZE {
-        return Found::Message;
+    let as_bank = ends(bytes, at, bank::DUMP_SIZE);
+    let as_single = ends(bytes, at, single::DUMP_SIZE);
+    if as_single & (!as_bank | is_of_format_0(bytes, at)) {
+        return Found::Single;
     }
-    if bytes[at + (bank::DUMP_SIZE - 1)] != END {
-        return Found::Message;
+    if as_bank {
+        return Found::Bank;
     }
-    Found::Dump
+    Found::Message
 }
 
 // The first place from `at` on that holds one of two bytes; the length where none does.
@@ -83,13 +106,13 @@ pub fn stray_end(bytes: &[u8], at: usize) -> Cut
     }
 }
 
-// The bytes of the dump that begins at a place.
-pub fn dump<'a>(bytes: &'a [u8], at: usize) -> &'a [u8]
+// The bytes of a dump of some size that begins at a place.
+pub fn dump<'a>(bytes: &'a [u8], at: usize, size: usize) -> &'a [u8]
     requires { ⌜ at ≤ length (now bytes) ⌝ }
 {
-    if bytes.len() - at < bank::DUMP_SIZE {
+    if bytes.len() - at < size {
         return &bytes[at..];
     }
-    let end = at + bank::DUMP_SIZE;
+    let end = at + size;
     &bytes[at..end]
 }

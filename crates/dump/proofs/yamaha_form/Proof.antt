@@ -13,8 +13,14 @@ fixed-requires-2 c κs = search needs
 fixed-requires-3 : tie.Need-fixed-requires-3
 fixed-requires-3 c κs = search needs
 
+cast-fixed : tie.Need-cast-fixed
+cast-fixed c = search needs
+
 fixed-requires-4 : tie.Need-fixed-requires-4
 fixed-requires-4 c κs = search needs
+
+cast-fixed-2 : tie.Need-cast-fixed-2
+cast-fixed-2 c = search needs
 
 fixed-requires-5 : tie.Need-fixed-requires-5
 fixed-requires-5 c κs = search needs
@@ -45,7 +51,9 @@ yamaha-form-spec =
     fixed-requires
     fixed-requires-2
     fixed-requires-3
+    cast-fixed
     fixed-requires-4
+    cast-fixed-2
     fixed-requires-5
     fixed-requires-6
     returns)

@@ -17,8 +17,8 @@ loop-holds c = omega arith
 slot-part-requires : tie.Need-slot-part-requires Inv-loop μ-loop
 slot-part-requires c κs = search needs
 
-print-patch-requires : tie.Need-print-patch-requires Inv-loop μ-loop
-print-patch-requires c κs = search needs
+print-packed-requires : tie.Need-print-packed-requires Inv-loop μ-loop
+print-packed-requires c κs = search needs
 
 returns : tie.Need-returns Inv-loop μ-loop
 returns c = tt
@@ -43,7 +43,7 @@ print-bank-spec =
     μ-loop
     loop-holds
     slot-part-requires
-    print-patch-requires
+    print-packed-requires
     returns
     add-slot
     loop-less

@@ -1,0 +1,4 @@
+pub mod Turns
+pub mod Orders
+pub mod Answers
+pub mod RoundTrip
