@@ -34,7 +34,7 @@ pub fn answer(entry: u8, s: &[u8], registers: &mut [u8], out: &mut [u8]) -> usiz
 }
 
 // Keeps a patch and writes it.
-fn store(registers: &mut [u8], patch: Patch, out: &mut [u8], at: usize) -> usize {
+pub fn store(registers: &mut [u8], patch: Patch, out: &mut [u8], at: usize) -> usize {
     put_patch(registers, judge_wire::PATCH as usize, patch);
     judge_wire::put_register(out, at, registers, judge_wire::PATCH, 156)
 }

@@ -34,6 +34,10 @@ use Rattle.bank.proofs.number as bank-number
 use Rattle.bank.proofs.channel as bank-channel
 use Rattle.bank.proofs.Reader.number as bank-reader-number
 use Rattle.bank.proofs.Reader.channel as bank-reader-channel
+use Rattle.single.proofs.read as single-read
+use Rattle.single.proofs.write as single-write
+use Rattle.single.proofs.from_packed as single-from-packed
+use Rattle.single.proofs.to_packed as single-to-packed
 use Rattle.algorithms.proofs.compile as algorithms-compile
 use Rattle.algorithms.proofs.compile_row as algorithms-compile-row
 use Rattle.algorithms.proofs.is_modulator as algorithms-is-modulator
@@ -173,6 +177,20 @@ module _ {M : Type 1} (𝓤 : URA M) (H : Heap 𝓤) (A : Atoms 𝓤) (mem : Mem
 
   pub bank-reader-channel-settled : Settled 𝓤 bank-reader-channel.ended (bank-reader-channel.clauses 𝓤 H A mem run)
   bank-reader-channel-settled κs a g z y ws vs = equal 𝓤 _ z y refl
+
+  -- ---- single-voice dumps
+
+  pub single-read-settled : Settled 𝓤 single-read.ended (single-read.clauses 𝓤 H A mem run)
+  single-read-settled κs a g z y ws vs = equal 𝓤 _ z y refl
+
+  pub single-write-settled : Settled 𝓤 single-write.ended (single-write.clauses 𝓤 H A mem run)
+  single-write-settled κs a g z y ws vs = equal 𝓤 _ z y refl
+
+  pub single-from-packed-settled : Settled 𝓤 single-from-packed.ended (single-from-packed.clauses 𝓤 H A mem run)
+  single-from-packed-settled κs a g z y ws vs = equal 𝓤 _ z y refl
+
+  pub single-to-packed-settled : Settled 𝓤 single-to-packed.ended (single-to-packed.clauses 𝓤 H A mem run)
+  single-to-packed-settled κs a g z y ws vs = equal 𝓤 _ z y refl
 
   -- ---- rows
 

@@ -64,7 +64,7 @@ fn framed(header: &[u8]) -> bool {
     header[..2] == [0xf0, 0x43] && header[2] <= 15 && header[3..] == [0x09, 0x20, 0x00]
 }
 
-fn checksum(bytes: &[u8]) -> u8 {
+pub fn checksum(bytes: &[u8]) -> u8 {
     let sum: u32 = bytes.iter().map(|byte| *byte as u32).sum();
     ((128 - sum % 128) % 128) as u8
 }

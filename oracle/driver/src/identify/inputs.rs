@@ -1,8 +1,10 @@
-//! Inputs of the program `identify`: banks, single patches, and what is refused.
+//! Inputs of the program `identify`: banks, packed patches, single-voice dumps, and what is refused.
 
 use crate::entry::draw::Draw;
 use crate::groups::bank::{bank, validate};
+use crate::groups::single;
 use crate::identify::corpus::corpus;
+use plaits::fm::patch::Patch;
 
 /// A packed patch: any bytes below `end`, with an LFO that is mostly heard within the notes.
 fn packed(draw: &mut Draw, end: u32) -> [u8; 128] {
@@ -30,14 +32,23 @@ pub fn random_bank(draw: &mut Draw) -> Vec<u8> {
     bank(draw.below(16) as u8, &patches)
 }
 
-/// Inputs in turn: the corpus on each channel; then mostly banks, single patches with any bytes, and inputs that are
-/// refused.
+/// A single-voice dump of a packed patch, its sensitivity at most 7.
+fn one_voice(draw: &mut Draw) -> Vec<u8> {
+    let mut patch = Patch::new();
+    patch.unpack(&packed(draw, 128));
+    single::write(&patch, draw.below(16) as u8).to_vec()
+}
+
+/// Inputs in turn: the corpus on each channel; then mostly banks, packed patches with any bytes, single-voice dumps,
+/// and inputs that are refused.
 pub fn input(draw: &mut Draw, turn: u64) -> Vec<u8> {
     match turn % 8 {
         _ if turn < 16 => corpus(turn as u8),
+        3 => one_voice(draw),
+        4 => single::dump(draw),
         5 => packed(draw, 256).to_vec(),
         6 => {
-            let length = draw.one_of(&[0, 1, 127, 129, 4103, 4105, 4106, 20_000]);
+            let length = draw.one_of(&[0, 1, 127, 129, 162, 164, 4103, 4105, 4106, 20_000]);
             (0..length).map(|_| draw.any_u8()).collect()
         }
         7 => {

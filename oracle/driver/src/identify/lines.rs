@@ -4,6 +4,7 @@
 
 use crate::groups::bank::validate;
 use crate::groups::patch::modulations_fit;
+use crate::groups::single;
 use crate::identify::identifier::{Hidden, Table, identifier};
 use crate::identify::inputs::slots;
 use plaits::fm::patch::Patch;
@@ -29,22 +30,25 @@ impl Lines {
         let mut lines = Lines::default();
         match input.len() {
             0..128 => lines.error.push("refused 1".to_string()),
-            128 => lines.patch(table, 0, input),
+            128 => lines.patch(table, 0, &unpacked(input)),
+            163 => match single::number(input) {
+                0 => lines.patch(table, 0, &single::voice(&input[6..161])),
+                number => lines.error.push(format!("refused {number}")),
+            },
             _ => match validate(input) {
-                0 => slots(input).for_each(|(slot, bytes)| lines.patch(table, slot, bytes)),
+                0 => slots(input).for_each(|(slot, bytes)| lines.patch(table, slot, &unpacked(bytes))),
                 number => lines.error.push(format!("refused {number}")),
             },
         }
         lines
     }
 
-    /// The line of a packed patch.
-    fn patch(&mut self, table: &Table, slot: usize, bytes: &[u8]) {
-        let patch = unpacked(bytes);
+    /// The line of a patch.
+    fn patch(&mut self, table: &Table, slot: usize, patch: &Patch) {
         let letter = |byte: &u8| if (0x20..=0x7e).contains(byte) { *byte as char } else { '.' };
         let name: String = patch.name.iter().map(letter).collect();
         match modulations_fit(&patch.modulations, 7) {
-            true => self.output.push(format!("{slot:02} {name} {:016x}", identifier(table, &patch, Hidden::Set))),
+            true => self.output.push(format!("{slot:02} {name} {:016x}", identifier(table, patch, Hidden::Set))),
             false => self.error.push(format!("{slot:02} {name} refused 6")),
         }
     }
