@@ -1,9 +1,9 @@
 -- Dumps in Yamaha's frame, there and back: what is written is sound and has the channel and the data, and a sound dump
 -- is what is written of its own. Assumes nothing.
 use mathlib.Core.Path.{_≡_, refl, sym, _∙_, ap, ap₂}
-use mathlib.Core.Bool.{Bool, true, _&&_, and-eq-true-iff}
+use mathlib.Core.Bool.{true, and-eq-true-iff}
 use mathlib.Core.List.{List, [], _∷_, _++_}
-use Prim.Native.Nat.{ℕ, suc, _+_, _/_, _%_, _<_, _≤_}
+use Prim.Native.Nat.{ℕ, suc, _+_, _/_, _%_, _≤_}
 use native.Mathlib.Nat.{add-assoc}
 use native.Mathlib.Omega.{arith}
 use borrow.Author.Tests.{leb-true, le-leb}
@@ -14,10 +14,10 @@ use lib.Seq.{take-append-seam, getD-append-add, getD-append-seam, drop-drop, dro
 use Rattle.dump.specs.declared.Row.{Row}
 use Rattle.dump.specs.declared.Form.{Form}
 use Rattle.dump.specs.Dump.{inRow, inRows, fixed, yamahaForm, sumPlace, sizeOf, framed, channelByte, withChannel}
-use Rattle.dump.specs.Dump.{dataOf, sumByte, largestOf, summed, checksumOf, dumpNumber}
+use Rattle.dump.specs.Dump.{dataOf, sumByte, largestOf, checksumOf, dumpNumber}
 use Rattle.dump.proofs.Sums.{checksum-summed, summed-checksum}
 use Rattle.dump.proofs.Channels.{sixteen-row}
-use Rattle.dump.proofs.Numbers.{Sound, sound, is-0}
+use Rattle.dump.proofs.Numbers.{sound, is-0}
 use Rattle.dump_writer.specs.Written.{headerOf, writtenOf}
 
 -- a byte is within the row of a fixed one exactly if it is that
@@ -140,7 +140,12 @@ module _ (format count : ℕ) (dump : List ℕ) (zero-is : dumpNumber (yamahaFor
   abbrev at : ℕ → ℕ
   at k = getD dump k 0
 
-  frame : (at 0 ≡ 0xF0) × (at 1 ≡ 0x43) × (at 3 ≡ format) × (at 4 ≡ count / 128 % 128) × (at 5 ≡ count % 128) × (at (6 + count + 1) ≡ 0xF7)
+  abbrev Frame : Type 0
+  Frame =
+      (at 0 ≡ 0xF0) × (at 1 ≡ 0x43) × (at 3 ≡ format) × (at 4 ≡ count / 128 % 128) × (at 5 ≡ count % 128)
+      × (at (6 + count + 1) ≡ 0xF7)
+
+  frame : Frame
   unfolding framed yamahaForm sumPlace
   frame =
       let all = and-eq-true-iff (inRows (form .header) dump 0) (inRow (fixed 0xF7) (at (6 + count + 1))) .0

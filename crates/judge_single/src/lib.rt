@@ -27,10 +27,7 @@ fn given<'a>(s: &'a [u8]) -> &'a [u8] {
 }
 
 fn read(s: &[u8], registers: &mut [u8], out: &mut [u8]) -> usize {
-    let done = single::read(
-        judge_patches::patch(registers, judge_wire::PATCH),
-        given(s),
-    );
+    let done = single::read(judge_patches::patch(registers, judge_wire::PATCH), given(s));
     let patch = done.patch;
     let a = judge_wire::put_byte(out, 5, done.number);
     let b = judge_wire::put_byte(out, a, done.channel);

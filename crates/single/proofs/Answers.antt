@@ -2,7 +2,7 @@
 use mathlib.Core.Path.{_≡_, refl, sym, _∙_, ap}
 use mathlib.Core.Bool.{Bool, true, false, cond, _&&_, and-eq-true-iff}
 use mathlib.Core.List.{List}
-use Prim.Native.Nat.{ℕ, _≤_}
+use Prim.Native.Nat.{ℕ}
 use native.Mathlib.Omega.{arith}
 use borrow.Author.Tests.{eq-eqb, ne-eqb, eqb-true, eqb-false}
 use lib.Dec.{eqb, leb}
@@ -69,7 +69,8 @@ module _ (dump : List ℕ) where
     unfolding readOf
     read-0 e = rw (eq-eqb (readNumber dump) 0 e)
 
-    read-refused : (readNumber dump ≡ 0 → ⊥) → record { number = readNumber dump; channel = 0; patch = p } ≡ readOf p dump
+    read-refused : (readNumber dump ≡ 0 → ⊥)
+        → record { number = readNumber dump; channel = 0; patch = p } ≡ readOf p dump
     unfolding readOf
     read-refused h = rw (ne-eqb (readNumber dump) 0 h)
 
@@ -99,7 +100,8 @@ module _ (dump : List ℕ) where
         unfolding openedOf
         patch-read f =
             let d : dumpNumber singleForm dump ≡ 0 = sym number-is ∙ z in
-            let c : o .channel ≡ channelByte dump = ap (λ (x : Opened). x .channel) e ∙ rw (eq-eqb (dumpNumber singleForm dump) 0 d) in
+            let c : o .channel ≡ channelByte dump =
+            ap (λ (x : Opened). x .channel) e ∙ rw (eq-eqb (dumpNumber singleForm dump) 0 d) in
             rw (c, v-is) (read-0 (number-0 d (ap singleFits (sym v-is) ∙ sym b-is ∙ f)))
 
 -- the number that is read
@@ -143,7 +145,8 @@ module _ (dump : List ℕ) (n : Patch) (n-is : n ≡ zeroPatch) (r : Parsed) (r-
   parsed-number : readNumber dump ≡ r .number
   parsed-number = sym (ap (λ (x : Parsed). x .number) parsed-is ∙ number-read zeroPatch dump)
 
-  pub not-read : (r .number ≡ 0 → ⊥) → record { number = r .number; channel = 0; bytes = replicate 128 0 } ≡ toPackedOf dump
+  pub not-read : (r .number ≡ 0 → ⊥)
+      → record { number = r .number; channel = 0; bytes = replicate 128 0 } ≡ toPackedOf dump
   unfolding toPackedOf readOf
   not-read h =
       let z = ne-eqb (readNumber dump) 0 (λ q. h (sym parsed-number ∙ q)) in

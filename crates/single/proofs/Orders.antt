@@ -1,17 +1,18 @@
--- A dump's order and layout order: each operator's last seven fields turn by one place from the one to the other, and by
--- six back; and the patch of a patch's data bytes is that patch. Assumes nothing.
+-- A dump's order and layout order: each operator's last seven fields turn by one place from layout order to a dump's,
+-- and by six back; and the patch of a patch's data bytes is that patch. Assumes nothing.
 use mathlib.Core.Path.{_≡_, refl, sym, _∙_, ap}
 use mathlib.Core.Bool.{true, and-eq-true-iff}
 use mathlib.Core.List.{List, [], _∷_, map}
-use Prim.Native.Nat.{ℕ, zero, suc, _<_, _≤_, max}
+use Prim.Native.Nat.{ℕ, zero, suc, _<_, _≤_}
 use native.Mathlib.Omega.{arith}
 use borrow.Author.Tests.{leb-true}
 use lib.Dec.{eqb, leb}
-use lib.ListN.{length, getD}
+use lib.ListN.{length}
 use Rattle.dump.specs.Dump.{fixed, channelRow, yamahaForm, largestOf}
 use Rattle.patch.specs.declared.Patch.{Patch}
 use Rattle.patch.specs.Layout.{later, envelopeField, scalingField, operatorField, lfoField, fieldOf}
-use Rattle.patch.specs.Layout.{operatorNames, envelopeNames, scalingNames, lfoNames, letters, sharedNames, layout, Place}
+use Rattle.patch.specs.Layout.{Place, operatorNames, envelopeNames, scalingNames, lfoNames, letters, sharedNames}
+use Rattle.patch.specs.Layout.{layout}
 use Rattle.patch.specs.Form.{envelopeWith, scalingWith, operatorWith, modulationsWith, nameWith, patchWith}
 use Rattle.patch.specs.Form.{envelopeNumber, scalingNumber, operatorNumber, lfoNumber, operatorAt, numberOf}
 use Rattle.patch.specs.Form.{ShapedEnvelope, Shaped}
@@ -26,7 +27,8 @@ use Rattle.single.specs.Single.{turnedPlace, turnedFrom, turned}
 use Rattle.single.proofs.Turns.{turned-low}
 
 -- the form's bytes, as the request writes them: F0 43 0n 00 01 1B
-pub single-header : singleForm .header ≡ fixed 0xF0 ∷ fixed 0x43 ∷ channelRow ∷ fixed 0x00 ∷ fixed 0x01 ∷ fixed 0x1B ∷ []
+pub single-header : singleForm .header
+    ≡ fixed 0xF0 ∷ fixed 0x43 ∷ channelRow ∷ fixed 0x00 ∷ fixed 0x01 ∷ fixed 0x1B ∷ []
 unfolding singleForm yamahaForm
 single-header = refl
 

@@ -1,19 +1,18 @@
 -- Single-voice dumps, there and back: reading what was written gives the patch and the channel, writing what was read
 -- gives the dump, and so does going across to the packed form and back, either way. Assumes nothing.
-use mathlib.Core.Path.{_≡_, refl, sym, _∙_, ap, ap₂}
-use mathlib.Core.Bool.{Bool, true, false, cond, _&&_, and-eq-true-iff}
-use mathlib.Core.List.{List, [], _∷_, map}
-use Prim.Native.Nat.{ℕ, _≤_, max}
-use native.Mathlib.Omega.{arith}
-use borrow.Author.Tests.{eqb-true, leb-true, le-leb, le-ltb, eq-eqb}
-use lib.Dec.{eqb, leb}
+use mathlib.Core.Path.{_≡_, sym, _∙_, ap, ap₂}
+use mathlib.Core.Bool.{true, and-eq-true-iff}
+use mathlib.Core.List.{List}
+use Prim.Native.Nat.{ℕ, _≤_}
+use borrow.Author.Tests.{eqb-true, le-leb, le-ltb}
+use lib.Dec.{eqb}
 use lib.ListN.{length, take}
-use Rattle.dump.specs.Dump.{channelByte, dataOf, largestOf, dumpNumber}
+use Rattle.dump.specs.Dump.{channelByte, dataOf, dumpNumber}
 use Rattle.dump.proofs.Channels.{sound-channel}
 use Rattle.dump_writer.specs.Written.{writtenOf}
 use Rattle.dump_writer.proofs.Written.{channel-written, data-written, sound-written, data-length, written-of-sound}
 use Rattle.patch.specs.declared.Patch.{Patch}
-use Rattle.patch.specs.Layout.{Place, fieldOf, layout, lfoSensitivity}
+use Rattle.patch.specs.Layout.{fieldOf, layout}
 use Rattle.patch.specs.Form.{numberOf, zeroPatch, Shaped}
 use Rattle.patch.specs.Packed.{within, unpacked, patchFits, unpackOf}
 use Rattle.patch.proofs.Reading.{unpacked-fits}
@@ -22,7 +21,7 @@ use Rattle.patch_packer.proofs.RoundTrip.{unpacked-of-packed, packed-of-unpacke
 use Rattle.single.specs.declared.Parsed.{Parsed}
 use Rattle.single.specs.declared.Written.{Written}
 use Rattle.single.specs.declared.Repacked.{Repacked}
-use Rattle.single.specs.Single.{singleForm, singleOrder, dataBytes, patchIn, singleFits, readNumber, readOf}
+use Rattle.single.specs.Single.{singleForm, dataBytes, patchIn, singleFits, readNumber, readOf}
 use Rattle.single.specs.Single.{writeOf, fromPackedOf, toPackedOf}
 use Rattle.single.proofs.Orders.{data-of-patch, patch-of-data, length-data, data-low}
 use Rattle.single.proofs.Orders.{made-shaped}
@@ -98,7 +97,8 @@ module _ (dump : List ℕ) (zero-is : readNumber dump ≡ 0) where
       ∙ written-of-sound 0x00 155 dump sound
 
   dump-back : writeOf voice channel ≡ record { number = 0; bytes = dump }
-  dump-back = write-accepts voice channel fits below ∙ ap (λ (b : List ℕ). record { number = 0; bytes = b }) written-back
+  dump-back =
+      write-accepts voice channel fits below ∙ ap (λ (b : List ℕ). record { number = 0; bytes = b }) written-back
 
   -- WRITING WHAT WAS READ gives the dump back, byte for byte
   pub write-of-read : (q : Patch)
@@ -114,24 +114,29 @@ module _ (dump : List ℕ) (zero-is : readNumber dump ≡ 0) where
   unfolding patchIn
   same-voice = unpacked-of-packed voice (made-shaped _ 63) (fits-everywhere voice fits)
 
-  pub unpack-of-to : (q : Patch) → unpackOf q (toPackedOf dump .bytes) ≡ record { number = 0; patch = readOf q dump .patch }
+  pub unpack-of-to : (q : Patch)
+      → unpackOf q (toPackedOf dump .bytes) ≡ record { number = 0; patch = readOf q dump .patch }
   unfolding unpackOf
   unpack-of-to q =
       ap (λ (r : Repacked). unpackOf q (r .bytes)) to-accepts
       ∙ rw (length-packed voice, same-voice, ← read-0 dump q zero-is)
 
   -- ACROSS AND BACK from a dump: the dump, byte for byte, and so the patch
-  pub from-of-to : fromPackedOf (toPackedOf dump .bytes) (toPackedOf dump .channel) ≡ record { number = 0; bytes = dump }
+  pub from-of-to : fromPackedOf (toPackedOf dump .bytes) (toPackedOf dump .channel)
+      ≡ record { number = 0; bytes = dump }
   unfolding fromPackedOf unpackOf
   from-of-to =
       ap (λ (r : Repacked). fromPackedOf (r .bytes) (r .channel)) to-accepts
       ∙ rw (length-packed voice, same-voice) dump-back
 
 -- across and back from a packed patch whose sensitivity is at most 7: the patch, and its bytes if they were clean
-module _ (s : List ℕ) (channel : ℕ) (long : 128 ≤ length s) (low : unpacked s .modulations .«pitch_mod_sensitivity» ≤ 7) (to : channel ≤ 15) where
+abbrev sensitivity : List ℕ → ℕ
+sensitivity s = unpacked s .modulations .«pitch_mod_sensitivity»
+
+module _ (s : List ℕ) (channel : ℕ) (long : 128 ≤ length s) (low : sensitivity s ≤ 7) (to : channel ≤ 15) where
   unpacked-fits-here : singleFits (unpacked s) ≡ true
   unfolding singleFits
-  unpacked-fits-here = rw (unpacked-fits s) (le-leb (unpacked s .modulations .«pitch_mod_sensitivity») 7 low)
+  unpacked-fits-here = rw (unpacked-fits s) (le-leb (sensitivity s) 7 low)
 
   shaped : Shaped (unpacked s)
   unfolding unpacked
@@ -145,7 +150,8 @@ module _ (s : List ℕ) (channel : ℕ) (long : 128 ≤ length s) (low : unpacke
   pub to-of-from : toPackedOf (fromPackedOf s channel .bytes)
       ≡ record { number = 0; channel = channel; bytes = packed (unpacked s) }
   to-of-from =
-      ap (λ (w : Written). toPackedOf (w .bytes)) (from-accepts ∙ write-accepts (unpacked s) channel unpacked-fits-here to)
+      ap (λ (w : Written). toPackedOf (w .bytes))
+      (from-accepts ∙ write-accepts (unpacked s) channel unpacked-fits-here to)
       ∙ to-accepts (dump (unpacked s) channel unpacked-fits-here to)
       (number-back (unpacked s) channel unpacked-fits-here to shaped)
       ∙ ap₂ (λ (c : ℕ) (v : Patch). record { number = 0; channel = c; bytes = packed v })

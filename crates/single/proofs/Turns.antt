@@ -2,7 +2,7 @@
 use mathlib.Core.Path.{_≡_, refl, sym, _∙_, ap}
 use mathlib.Core.Bool.{Bool, true, false}
 use mathlib.Core.List.{List, [], _∷_}
-use Prim.Native.Nat.{ℕ, zero, suc, _+_, _-_, _%_, _<_, _≤_, max}
+use Prim.Native.Nat.{ℕ, zero, suc, _+_, _-_, _%_, _<_, _≤_}
 use native.Mathlib.Nat.{add-zero, zero-add}
 use native.Mathlib.Omega.{arith}
 use borrow.Author.Tests.{le-leb, lt-leb, le-ltb, lt-ltb, eqb-true, eqb-false}
@@ -60,7 +60,8 @@ module _ (by : ℕ) (s : List ℕ) where
   unfolding turned
   turned-all out l t =
       ext-getD 0 out (turnedFrom by s 0 155) (l ∙ sym (length-turned 0 155)) (λ k h.
-      t k (omega arith) ∙ sym (getD-turned 155 0 k (omega arith) ∙ ap (λ (j : ℕ). getD s (turnedPlace by j) 0) (zero-add k)))
+      t k (omega arith)
+      ∙ sym (getD-turned 155 0 k (omega arith) ∙ ap (λ (j : ℕ). getD s (turnedPlace by j) 0) (zero-add k)))
 
   -- none is larger than all were
   getD-low : (l : List ℕ) (k : ℕ) → getD l k 0 ≤ largestOf l

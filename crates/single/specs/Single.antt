@@ -1,6 +1,6 @@
--- A single-voice dump: Yamaha's frame around a patch's 155 fields, a byte each. What it shares with the packed form, the
--- fields, their names and their limits, is `patch`'s table; the frame and the checksum are those of every dump. Only
--- where a field stands is said here. To be believed, but for the turn of an operator's fields at the end.
+-- A single-voice dump: Yamaha's frame around a patch's 155 fields, a byte each. What it shares with the packed form,
+-- the fields, their names and their limits, is `patch`'s table; the frame and the checksum are those of every dump.
+-- Only where a field stands is said here. To be believed, but for the turn of an operator's fields at the end.
 use mathlib.Core.Bool.{Bool, cond, _&&_}
 use mathlib.Core.List.{List, [], _∷_, _++_, map}
 use Prim.Native.Nat.{ℕ, zero, suc, _+_, _-_, _%_}
@@ -10,7 +10,6 @@ use Rattle.dump.specs.declared.Form.{Form}
 use Rattle.dump.specs.Dump.{yamahaForm, channelByte, dataOf, dumpNumber}
 use Rattle.dump_writer.specs.Written.{writtenOf}
 use Rattle.patch.specs.declared.Patch.{Patch}
-use Rattle.patch.specs.declared.Unpacked.{Unpacked}
 use Rattle.patch.specs.Layout.{OperatorName, Stage, Scaling, RateScaling, Detune, AmplitudeSensitivity}
 use Rattle.patch.specs.Layout.{VelocitySensitivity, OutputLevel, Mode, Coarse, Fine, Place, envelopeNames}
 use Rattle.patch.specs.Layout.{scalingNames, allFields, lfoSensitivity}

@@ -6,7 +6,6 @@ use dump::Form;
 use patch::Patch;
 use patch::largest;
 ghost use mathlib.Core.Path.{_≡_};
-ghost use mathlib.Core.Bool.{true};
 ghost use Prim.Native.Nat.{_<_};
 ghost use lib.ListN.{length};
 ghost use Rattle.dump.specs.Dump.{dataOf};

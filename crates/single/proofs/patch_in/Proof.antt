@@ -1,7 +1,5 @@
 -- `single::patch_in` meets its contract: its data, turned, are the patch's numbers. Assumes nothing.
 use mathlib.Core.Path.{_∙_, ap}
-use mathlib.Core.List.{List}
-use Prim.Native.Nat.{ℕ}
 use Rattle.dump.specs.Dump.{yamahaForm, dataOf}
 use Rattle.patch_numbers.specs.Numbers.{patchOf}
 use Rattle.single.specs.Single.{singleForm}

@@ -1,7 +1,5 @@
 -- `single::read` meets its contract. The dump's number decides, then the limits. Assumes nothing.
 use mathlib.Core.Path.{_≡_, _∙_, ap}
-use mathlib.Core.List.{List}
-use Prim.Native.Nat.{ℕ}
 use borrow.Author.Tests.{not-true, not-false}
 use denote.Ref.{now}
 use Rattle.dump.specs.declared.Form.{Form}
@@ -19,7 +17,8 @@ channel-requires : tie.Need-channel-requires
 channel-requires c κs = search needs
 
 -- the dump's number and channel
-opened : (c : tie.After-channel) → c .channel .result ≡ openedOf singleForm (now (c .before .before .before .args .dump))
+opened : (c : tie.After-channel)
+    → c .channel .result ≡ openedOf singleForm (now (c .before .before .before .args .dump))
 opened c =
     c .channel .ensures
     ∙ ap (λ (f : Form). openedOf f (now (c .before .before .before .args .dump))) (c .before .single-form .ensures)
@@ -45,7 +44,8 @@ returns-2 c =
     let at-patch = c .before .before in
     let at-channel = at-patch .before .before .before in
     let at-start = at-channel .before .before .before in
-    patch-refused (now (at-start .args .dump)) (at-start .args .patch) _ (opened at-channel) (at-patch .before .if1 .left) _
+    patch-refused (now (at-start .args .dump)) (at-start .args .patch) _ (opened at-channel)
+    (at-patch .before .if1 .left) _
     (at-patch .patch-in .ensures) _ (c .before .fits2 .ensures)
     (not-true (c .before .fits2 .result) (c .if2 .taken))
 
@@ -54,7 +54,8 @@ returns-3 c =
     let at-patch = c .before .before in
     let at-channel = at-patch .before .before .before in
     let at-start = at-channel .before .before .before in
-    patch-read (now (at-start .args .dump)) (at-start .args .patch) _ (opened at-channel) (at-patch .before .if1 .left) _
+    patch-read (now (at-start .args .dump)) (at-start .args .patch) _ (opened at-channel)
+    (at-patch .before .if1 .left) _
     (at-patch .patch-in .ensures) _ (c .before .fits2 .ensures)
     (not-false (c .before .fits2 .result) (c .if2 .left))
 

@@ -1,5 +1,5 @@
 -- `single::write_whole` meets its contract: the patch's numbers, turned, are the data. Assumes nothing.
-use mathlib.Core.Path.{_≡_, refl, _∙_, ap, ap₂}
+use mathlib.Core.Path.{_≡_, _∙_, ap, ap₂}
 use mathlib.Core.List.{List}
 use Prim.Native.Nat.{ℕ}
 use native.Mathlib.Omega.{arith}
@@ -34,7 +34,8 @@ slice-aggregate-write-2 c = search needs
 write-requires : tie.Need-write-requires
 unfolding singleForm yamahaForm
 write-requires c κs =
-    let count : c .before .single-form .result .count ≡ 155 = ap (λ (f : Form). f .count) (c .before .single-form .ensures) in
+    let count : c .before .single-form .result .count ≡ 155 =
+    ap (λ (f : Form). f .count) (c .before .single-form .ensures) in
     let long : length (c .before .before .before .turned .result) ≡ 155 = search needs in
     (omega (arith, count, long), omega (arith, count))
 

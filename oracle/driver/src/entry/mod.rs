@@ -20,6 +20,8 @@ pub struct Entry {
     pub answer: fn(&mut Arguments, &mut Registers, &mut Answer),
     /// How arguments are made, where it is not each by its kind alone.
     pub draw: Option<fn(&mut Draw)>,
+    /// The arguments of a script's first call of it, where they are written by hand.
+    pub first: Option<fn(&mut Draw)>,
     /// The calls that go through all that is worth trying, where there is such a list.
     pub every: Option<Every>,
     /// Whether the answer depends on calls before, or calls after depend on this one.
@@ -42,13 +44,17 @@ pub const fn entry(
     says: &'static str,
     answer: fn(&mut Arguments, &mut Registers, &mut Answer),
 ) -> Entry {
-    Entry { number, name, arguments, says, answer, draw: None, every: None, state: false, weight: 8 }
+    Entry { number, name, arguments, says, answer, draw: None, first: None, every: None, state: false, weight: 8 }
 }
 
 #[allow(dead_code)] // later groups use the rest
 impl Entry {
     pub const fn drawn(self, draw: fn(&mut Draw)) -> Entry {
         Entry { draw: Some(draw), ..self }
+    }
+
+    pub const fn first(self, first: fn(&mut Draw)) -> Entry {
+        Entry { first: Some(first), ..self }
     }
 
     pub const fn every(self, calls: u64, draw: fn(u64, &mut Draw)) -> Entry {

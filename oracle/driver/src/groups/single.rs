@@ -23,6 +23,7 @@ pub const ENTRIES: &[Entry] = &[
         let dump = dump(draw);
         draw.bytes(&dump);
     })
+    .first(|draw| draw.bytes(&dump_by_hand()))
     .every(DUMPS, every_dump)
     .with_state()
     .weight(3),
@@ -33,6 +34,7 @@ pub const ENTRIES: &[Entry] = &[
         answer.name("dump").u8s(&if number == 0 { write(&registers.patch, channel) } else { [0; 163] });
     })
     .drawn(draw_channel)
+    .first(|draw| draw.u8(5))
     .every(256, |nth, draw| draw.u8(nth as u8))
     .with_state()
     .weight(3),
@@ -44,6 +46,10 @@ pub const ENTRIES: &[Entry] = &[
         answer.name("dump").u8s(&dump.unwrap_or([0; 163]));
     })
     .drawn(packed_and_channel)
+    .first(|draw| {
+        draw.bytes(&BY_HAND);
+        draw.u8(5);
+    })
     .every(4 + 256 + 128 * 256, every_packed)
     .weight(3),
     entry(0x93, "packed_of_single", &[Bytes], "u8 number, u8 channel, 128 × u8", |given, _, answer| {
@@ -57,6 +63,7 @@ pub const ENTRIES: &[Entry] = &[
         let dump = dump(draw);
         draw.bytes(&dump);
     })
+    .first(|draw| draw.bytes(&dump_by_hand()))
     .every(DUMPS, every_dump)
     .weight(3),
 ];
@@ -281,6 +288,48 @@ fn every_packed(nth: u64, draw: &mut Draw) {
     draw.u8(if (4..260).contains(&nth) { (nth - 4) as u8 } else { (nth % 16) as u8 });
 }
 
+/// One patch written by hand in both forms: its data bytes in the request's order, and its packed bytes.
+#[rustfmt::skip]
+const DATA: [u8; 155] = [
+    99, 71, 42, 13, 98, 87, 65, 1, 39, 11, 22, 0, 3, 5, 2, 7, 90, 0, 1, 33, 14,
+    10, 20, 30, 40, 50, 60, 70, 80, 90, 5, 6, 1, 2, 7, 3, 4, 99, 1, 31, 99, 0,
+    0, 99, 0, 99, 99, 0, 99, 0, 0, 99, 0, 3, 0, 0, 0, 0, 0, 0, 0, 0, 7,
+    1, 2, 3, 4, 5, 6, 7, 8, 9, 10, 12, 2, 1, 4, 1, 5, 50, 1, 15, 20, 13,
+    25, 35, 45, 55, 65, 75, 85, 95, 27, 77, 88, 1, 3, 6, 2, 6, 66, 0, 16, 50, 8,
+    94, 67, 95, 60, 93, 28, 17, 9, 52, 0, 37, 2, 2, 1, 3, 1, 82, 1, 7, 5, 6,
+    84, 95, 94, 60, 50, 51, 49, 48, 31, 6, 1, 35, 12, 5, 19, 1, 4, 3, 24,
+    b'H', b'A', b'N', b'D', b' ', b'W', b'R', b'I', b'T', b'.',
+];
+
+#[rustfmt::skip]
+const BY_HAND: [u8; 128] = [
+    99, 71, 42, 13, 98, 87, 65, 1, 39, 11, 22, 12, 117, 30, 90, 2, 33,
+    10, 20, 30, 40, 50, 60, 70, 80, 90, 5, 6, 9, 7, 19, 99, 63, 99,
+    0, 99, 0, 99, 99, 0, 99, 0, 0, 99, 0, 3, 56, 0, 0, 0, 0,
+    1, 2, 3, 4, 5, 6, 7, 8, 9, 10, 12, 6, 108, 21, 50, 31, 20,
+    25, 35, 45, 55, 65, 75, 85, 95, 27, 77, 88, 13, 70, 26, 66, 32, 50,
+    94, 67, 95, 60, 93, 28, 17, 9, 52, 0, 37, 10, 49, 7, 82, 15, 5,
+    84, 95, 94, 60, 50, 51, 49, 48, 31, 14, 35, 12, 5, 19, 57, 24,
+    b'H', b'A', b'N', b'D', b' ', b'W', b'R', b'I', b'T', b'.',
+];
+
+/// The dump of it on channel 5, its checksum by hand too.
+fn dump_by_hand() -> Vec<u8> {
+    [&[0xf0, 0x43, 0x05, 0x00, 0x01, 0x1b], &DATA[..], &[46, 0xf7]].concat()
+}
+
+/// What is written here by code agrees with what is written by hand.
+pub fn agrees_with_hand() -> bool {
+    let dump = dump_by_hand();
+    let patch = voice(&DATA);
+    let numbers = [patch.op[0].detune, patch.op[3].coarse, patch.op[4].level, patch.modulations.waveform];
+    number(&dump) == 0
+        && numbers == [14, 15, 66, 4]
+        && write(&patch, 5).to_vec() == dump
+        && of_packed(&BY_HAND, 5).is_ok_and(|written| written.to_vec() == dump)
+        && pack(&patch) == BY_HAND
+}
+
 /// Across and back, either way, over random patches: the Rust unpacks the same patch from what comes back.
 #[test]
 fn across_and_back() {
@@ -295,37 +344,4 @@ fn across_and_back() {
         let back = voice(&of_packed(&any, 3).unwrap()[6..161]);
         assert_eq!(back, patch, "turn {turn}");
     }
-}
-
-/// The patch that the crate `cases_single` has by hand, written here by hand a second time.
-#[test]
-fn by_hand() {
-    #[rustfmt::skip]
-    const DATA: [u8; 155] = [
-        99, 71, 42, 13, 98, 87, 65, 1, 39, 11, 22, 0, 3, 5, 2, 7, 90, 0, 1, 33, 14,
-        10, 20, 30, 40, 50, 60, 70, 80, 90, 5, 6, 1, 2, 7, 3, 4, 99, 1, 31, 99, 0,
-        0, 99, 0, 99, 99, 0, 99, 0, 0, 99, 0, 3, 0, 0, 0, 0, 0, 0, 0, 0, 7,
-        1, 2, 3, 4, 5, 6, 7, 8, 9, 10, 12, 2, 1, 4, 1, 5, 50, 1, 15, 20, 13,
-        25, 35, 45, 55, 65, 75, 85, 95, 27, 77, 88, 1, 3, 6, 2, 6, 66, 0, 16, 50, 8,
-        94, 67, 95, 60, 93, 28, 17, 9, 52, 0, 37, 2, 2, 1, 3, 1, 82, 1, 7, 5, 6,
-        84, 95, 94, 60, 50, 51, 49, 48, 31, 6, 1, 35, 12, 5, 19, 1, 4, 3, 24,
-        b'H', b'A', b'N', b'D', b' ', b'W', b'R', b'I', b'T', b'.',
-    ];
-    #[rustfmt::skip]
-    const PACKED: [u8; 128] = [
-        99, 71, 42, 13, 98, 87, 65, 1, 39, 11, 22, 12, 117, 30, 90, 2, 33,
-        10, 20, 30, 40, 50, 60, 70, 80, 90, 5, 6, 9, 7, 19, 99, 63, 99,
-        0, 99, 0, 99, 99, 0, 99, 0, 0, 99, 0, 3, 56, 0, 0, 0, 0,
-        1, 2, 3, 4, 5, 6, 7, 8, 9, 10, 12, 6, 108, 21, 50, 31, 20,
-        25, 35, 45, 55, 65, 75, 85, 95, 27, 77, 88, 13, 70, 26, 66, 32, 50,
-        94, 67, 95, 60, 93, 28, 17, 9, 52, 0, 37, 10, 49, 7, 82, 15, 5,
-        84, 95, 94, 60, 50, 51, 49, 48, 31, 14, 35, 12, 5, 19, 57, 24,
-        b'H', b'A', b'N', b'D', b' ', b'W', b'R', b'I', b'T', b'.',
-    ];
-    let mut dump = vec![0xf0, 0x43, 0x05, 0x00, 0x01, 0x1b];
-    dump.extend(DATA);
-    dump.extend([46, 0xf7]);
-    assert_eq!(number(&dump), 0);
-    assert_eq!(of_packed(&PACKED, 5).unwrap().to_vec(), dump);
-    assert_eq!(pack(&voice(&DATA)), PACKED);
 }

@@ -5,7 +5,8 @@ use crate::entry::draw::Draw;
 use crate::options::Options;
 use std::io::{self, Write};
 
-/// The script of a seed over some entries: each of them once, in order, and then at random without end. Or, where
+/// The script of a seed over some entries: each of them once, in order, by hand where it has such a call, and then at
+/// random without end. Or, where
 /// every call is asked for, all those that the entries list, one entry after the other.
 pub struct Generator {
     draw: Draw,
@@ -33,12 +34,12 @@ impl Generator {
         if self.every {
             return self.listed(made);
         }
-        let entry = match self.entries.get(made as usize) {
-            Some(&entry) => entry,
-            None => self.draw.one_of(&self.wheel),
+        let (entry, first) = match self.entries.get(made as usize) {
+            Some(&entry) => (entry, entry.first),
+            None => (self.draw.one_of(&self.wheel), None),
         };
         self.draw.begin(entry.number);
-        match entry.draw {
+        match first.or(entry.draw) {
             Some(draw) => draw(&mut self.draw),
             None => entry.arguments.iter().for_each(|&kind| self.draw.by_kind(kind)),
         }
