@@ -1,14 +1,22 @@
--- The numbers of an unpacked patch: they are read from the bytes, and 6 never refuses them. Assumes nothing.
-use mathlib.Core.Path.{_≡_}
+-- The limits of the packed form, and the numbers of an unpacked patch: they are read from the bytes, and 6 never
+-- refuses them. Assumes nothing.
+use mathlib.Core.Path.{_≡_, refl}
 use mathlib.Core.Bool.{true}
 use mathlib.Core.List.{List, map}
 use Prim.Native.Nat.{ℕ, _≤_}
 use native.Mathlib.Omega.{arith}
-use Rattle.patch.specs.Layout.{fieldOf, layout}
+use Rattle.patch.specs.Layout.{limitOf, later, envelopeField, scalingField, operatorField, lfoField, fieldOf}
+use Rattle.patch.specs.Layout.{envelopeNames, scalingNames, operatorNames, lfoNames, letters, sharedNames, layout}
 use Rattle.patch.specs.Form.{numberOf, patchWith}
 use Rattle.patch.specs.Packed.{readIn, unpacked, patchFits}
 use Rattle.patch.proofs.Positions.{numbers-with}
 use Rattle.patch.proofs.Each.{Each, both-each, each-map, within-each}
+
+-- the packed form's largest numbers are the table's limits
+pub limits-of-packed : map (λ n. fieldOf n .largest) layout ≡ map limitOf layout
+unfolding layout operatorNames envelopeNames scalingNames lfoNames letters sharedNames fieldOf later operatorField
+    envelopeField scalingField lfoField
+limits-of-packed = refl
 
 -- the layout's numbers of an unpacked patch are its fields read from the bytes
 pub numbers-of-unpacked : (s : List ℕ) → map (numberOf (unpacked s)) layout ≡ map (λ n. readIn s (fieldOf n)) layout
