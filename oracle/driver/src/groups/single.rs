@@ -70,7 +70,7 @@ pub const ENTRIES: &[Entry] = &[
 
 const PACKED: &str = "u8 number, u8 14's place (0 until request g), 163 × u8";
 
-/// What is in a field's way: 6, a sensitivity above 7 besides.
+/// Whether 6 accepts a patch here: it refuses what it refuses everywhere, and a sensitivity above 7 besides.
 fn fits(patch: &Patch) -> bool {
     check(patch) == 0 && patch.modulations.pitch_mod_sensitivity <= 7
 }
