@@ -53,6 +53,7 @@ unsafe extern "C" {
     fn bench_voice(bytes: *const u8, len: usize, note: f32, blocks: u32, block: *mut f32, size: usize) -> u32;
     fn bench_identify(bytes: *const u8, len: usize) -> u64;
     fn bench_validate(dump: *const u8, len: usize) -> u8;
+    fn bench_pieces(dump: *const u8, len: usize, size: usize) -> u8;
     fn bench_compile(a: u8, b: u8, c: u8, d: u8, e: u8, f: u8) -> u8;
 }
 
@@ -293,6 +294,56 @@ fn bank() {
         },
     );
     assert_eq!(number, 0, "the dump is refused");
+    for size in [64, 128, 256, 1024, 4104] {
+        pieces(&dump, size);
+    }
+}
+
+/// Copies the pieces of a size into a patch's buffer, each up to the end of the patch at hand, as reading them must.
+fn copy_pieces(dump: &[u8], size: usize, patch: &mut [u8; 128]) {
+    let mut at = 0;
+    while at < dump.len() {
+        let piece = (at / size + 1) * size;
+        let (filled, end) = match at {
+            0..6 => (0, 6),
+            6..4102 => ((at - 6) % 128, at + 128 - (at - 6) % 128),
+            _ => (0, dump.len()),
+        };
+        let end = end.min(piece).min(dump.len());
+        if (6..4102).contains(&at) {
+            patch[filled..filled + end - at].copy_from_slice(&dump[at..end]);
+        }
+        black_box(&mut *patch);
+        at = end;
+    }
+}
+
+/// A bank in pieces of a size, rests given again, beside its validating and a copy of its bytes: all of them in one go,
+/// and as the pieces are cut.
+fn pieces(dump: &[u8], size: usize) {
+    const TIMES: usize = 100;
+    let mut ours = 0;
+    let mut reading =
+        || (0..TIMES).for_each(|_| ours = unsafe { bench_pieces(black_box(dump).as_ptr(), dump.len(), size) });
+    let validating = || unsafe { bench_validate(black_box(dump).as_ptr(), dump.len()) };
+    let (mut copy, mut patch) = (vec![0; dump.len()], [0; 128]);
+    let at_once = || {
+        for _ in 0..TIMES {
+            black_box(&mut copy).copy_from_slice(black_box(dump));
+            black_box(validating());
+        }
+    };
+    let what = format!("a bank in pieces of {size}, beside validating it and a copy of its bytes");
+    race(&format!("{what} at once: ns"), TIMES as f64, &mut reading, at_once);
+    let as_cut = || {
+        for _ in 0..TIMES {
+            copy_pieces(black_box(dump), black_box(size), &mut patch);
+            black_box(validating());
+        }
+    };
+    race(&format!("{what} as it is cut: ns"), TIMES as f64, &mut reading, as_cut);
+    let reports = (0..32).fold(0, |all, slot| all ^ slot as u8 ^ dump[133 + 128 * slot]);
+    assert_eq!(ours, reports, "other patches are reported, or the dump is refused");
 }
 
 fn rows() {

@@ -1,9 +1,11 @@
 // The work that bench/run times, in a form that a Rust program can link. Each function does one kind
 // of work many times over, so that the call itself costs next to nothing, and answers a sum of all
 // that was computed, so that nothing can be left out.
-ghost use Prim.Native.Nat.{_≤_};
+ghost use mathlib.Core.Path.{_≡_};
+ghost use Prim.Native.Nat.{_≤_, _<_, min};
 ghost use lib.ListN.{length};
 use algorithms::Call;
+use bank_pieces::Receiver;
 use operator::Feedback;
 use operator::Single;
 use patch::Envelope;
@@ -333,6 +335,72 @@ pub extern "C" fn bench_again(bytes: &[u8], out: &mut [u8; 128]) -> u8 {
 #[no_mangle]
 pub extern "C" fn bench_validate(dump: &[u8]) -> u8 {
     bank::validate(dump)
+}
+
+// A piece given to a reader until nothing of it is left; the mix has a byte of each reported patch.
+struct Given {
+    receiver: Receiver,
+    mix: u8,
+}
+
+fn mix_report(before: u8, complete: bool, slot: u8, last: u8) -> u8 {
+    if complete {
+        return before ^ slot ^ last;
+    }
+    before
+}
+
+fn give(first: Receiver, piece: &[u8], patch: &mut [u8; 128], before: u8) -> Given {
+    let mut receiver = first;
+    let mut mix = before;
+    let mut at = 0usize;
+    let mut turns = piece.len();
+    while turns > 0 && at < piece.len() {
+        let t = bank_pieces::take(receiver, &piece[at..], patch);
+        let next = t.receiver;
+        receiver = next;
+        at += least(t.taken, piece.len() - at);
+        mix = mix_report(mix, t.complete, t.slot, patch[127]);
+        turns -= 1;
+    }
+    Given { receiver, mix }
+}
+
+fn least(a: usize, b: usize) -> usize
+    ensures { λ r. ⌜ r ≡ min a b ⌝ }
+{
+    if a < b { a } else { b }
+}
+
+// Where a piece of a size ends; one of no bytes is all that is left.
+fn piece_end(at: usize, size: usize, length: usize) -> usize
+    requires { ⌜ at < length ⌝ }
+    ensures { λ r. ⌜ (at < r) × (r ≤ length) ⌝ }
+{
+    if size == 0 {
+        return length;
+    }
+    at + least(size, length - at)
+}
+
+// A dump in pieces of a size; its number and channel, and a byte of each reported patch.
+#[no_mangle]
+pub extern "C" fn bench_pieces(dump: &[u8], size: usize) -> u8 {
+    let mut patch = [0u8; 128];
+    let mut g = Given {
+        receiver: bank_pieces::open(),
+        mix: 0,
+    };
+    let mut at = 0usize;
+    while at < dump.len() {
+        let end = piece_end(at, size, dump.len());
+        let r = g.receiver;
+        g = give(r, &dump[at..end], &mut patch, g.mix);
+        at = end;
+    }
+    let last = g.receiver;
+    let e = bank_pieces::end(last);
+    e.number ^ e.channel ^ g.mix
 }
 
 // One row of six compiled; all of its plan.

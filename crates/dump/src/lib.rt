@@ -59,7 +59,7 @@ pub fn yamaha_form(format: u8, count: usize) -> Form
 }
 
 // The sum of some bytes, modulo 128, and the largest of them.
-struct Tallied {
+pub struct Tallied {
     pub sum: u8,
     pub largest: u8,
 }
@@ -70,7 +70,7 @@ fn larger(a: u8, b: u8) -> u8
     if a < b { b } else { a }
 }
 
-fn tally(s: &[u8]) -> Tallied
+pub fn tally(s: &[u8]) -> Tallied
     ensures { λ r. ⌜ (r .sum ≡ total (now (s .entry)) % 128) × (r .largest ≡ largestOf (now (s .entry))) ⌝ }
 {
     let mut sum = 0u8;
@@ -94,7 +94,7 @@ pub fn checksum(s: &[u8]) -> u8
 }
 
 // Whether a byte lies within its row.
-fn in_row(row: Row, b: u8) -> bool
+pub fn in_row(row: Row, b: u8) -> bool
     ensures { λ r. ⌜ r ≡ inRow row b ⌝ }
 {
     (row.from <= b) & (b <= row.to)

@@ -10,13 +10,6 @@ use streams::Window;
 // A dump of 32 patches and a byte more: with as many waiting, a dump is seen whole, and whether it is all.
 const NEEDED: usize = 4105;
 
-// The bytes that wait.
-pub fn waiting<'a>(buffer: &'a [u8], w: Window) -> &'a [u8] {
-    let end = streams::least(w.end, buffer.len());
-    let at = streams::least(w.at, end);
-    &buffer[at..end]
-}
-
 // Whether more is to be read before the bytes that wait are looked at.
 fn is_short(w: Window) -> bool {
     if w.ended {
@@ -243,7 +236,7 @@ pub fn print_file(fd: i32, name: &[u8]) -> bool {
     }
     let size = std::num::wrapping_sub_usize(w.end, w.at);
     if w.ended & is_whole(size) {
-        return lines::print_whole(name, waiting(&buffer, w));
+        return lines::print_whole(name, streams::waiting(&buffer, w));
     }
     print_messages(fd, name, &mut buffer, w)
 }

@@ -1,38 +1,7 @@
 // The lines of a patch, a dump and a refusal, each led by the file's name if there is one.
 ghost use mathlib.Core.Path.{_≡_};
-ghost use Prim.Native.Nat.{_<_};
 ghost use lib.ListN.{length};
 use patch::Patch;
-
-// A letter as it is printed: '.' for one outside 20 to 7E.
-fn printable(letter: u8) -> u8 {
-    if letter < 0x20 {
-        return b'.';
-    }
-    if letter > 0x7e { b'.' } else { letter }
-}
-
-// The first two columns: the slot and the name, each with a space behind it.
-fn head(slot: usize, n: [u8; 10]) -> [u8; 14]
-    requires { ⌜ slot < 32 ⌝ }
-{
-    [
-        b'0' + (slot / 10) as u8,
-        b'0' + (slot % 10) as u8,
-        b' ',
-        printable(n[0]),
-        printable(n[1]),
-        printable(n[2]),
-        printable(n[3]),
-        printable(n[4]),
-        printable(n[5]),
-        printable(n[6]),
-        printable(n[7]),
-        printable(n[8]),
-        printable(n[9]),
-        b' ',
-    ]
-}
 
 fn print_identifier(name: &[u8], head: &[u8], identifier: u64) -> bool {
     let mut digits = [0u8; 16];
@@ -41,11 +10,9 @@ fn print_identifier(name: &[u8], head: &[u8], identifier: u64) -> bool {
 }
 
 // The line of a slot's patch. The answer says whether to go on.
-fn print_patch(name: &[u8], slot: usize, patch: Patch) -> bool
-    requires { ⌜ slot < 32 ⌝ }
-{
+fn print_patch(name: &[u8], slot: usize, patch: Patch) -> bool {
     let letters = patch.name;
-    let columns = head(slot, letters);
+    let columns = streams::patch_columns(slot, letters);
     let r = identity::identify(patch);
     if r.number != 0 {
         streams::tell_refusal(name, &columns, r.number);
@@ -55,9 +22,7 @@ fn print_patch(name: &[u8], slot: usize, patch: Patch) -> bool
 }
 
 // The line of a packed patch.
-fn print_packed(name: &[u8], slot: usize, bytes: &[u8]) -> bool
-    requires { ⌜ slot < 32 ⌝ }
-{
+fn print_packed(name: &[u8], slot: usize, bytes: &[u8]) -> bool {
     let read = patch::unpack(Patch::new(), bytes);
     let patch = read.patch;
     print_patch(name, slot, patch)

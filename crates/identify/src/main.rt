@@ -20,7 +20,7 @@ fn standard_input() {
     if !w.ended {
         files::drain(STDIN_FILENO);
     }
-    lines::print_whole(no_name, files::waiting(&buffer, w));
+    lines::print_whole(no_name, streams::waiting(&buffer, w));
 }
 
 // The file of a word. The answer says whether to go on: it does not where a line could not be written.

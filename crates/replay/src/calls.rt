@@ -18,6 +18,7 @@ fn call_length(entry: u8, script: &[u8]) -> usize {
         0x60..=0x6f => judge_lfos::length(entry),
         0x80..=0x8f => judge_voices::length(entry, script),
         0x90..=0x93 => judge_single::length(entry, script),
+        0x98..=0x9a => judge_pieces::length(entry, script),
         _ => judge_units::length(entry),
     }
 }
@@ -32,6 +33,7 @@ fn body(entry: u8, script: &[u8], registers: &mut [u8], out: &mut [u8]) -> usize
         0x60..=0x6f => judge_lfos::answer(entry, script, registers, out),
         0x80..=0x8f => judge_voices::answer(entry, script, registers, out),
         0x90..=0x93 => judge_single::answer(entry, script, registers, out),
+        0x98..=0x9a => judge_pieces::answer(entry, script, registers, out),
         _ => judge_units::answer(entry, script, out),
     }
 }

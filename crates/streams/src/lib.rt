@@ -1,6 +1,7 @@
-// What programs share at their edge: a line put together in a buffer and then written or told, and a window over what
-// is read. Results go to standard output and what is wrong to standard error. No contract can say what is read or
-// written: these functions are proved safe and ending, and need nothing of their callers.
+// What programs share at their edge: a line put together in a buffer and then written or told, the columns that lead
+// the line of a patch, and a window over what is read. Results go to standard output and what is wrong to standard
+// error. No contract can say what is read or written: these functions are proved safe and ending, and need nothing of
+// their callers.
 ghost use mathlib.Core.Path.{_≡_};
 ghost use Prim.Native.Nat.{_≤_, min};
 ghost use lib.ListN.{length};
@@ -127,6 +128,34 @@ pub fn tell_why(name: &[u8], what: &[u8]) {
     os::fail(&line[start..end]);
 }
 
+// A letter as it is printed: '.' for one outside 20 to 7E.
+fn printable(letter: u8) -> u8 {
+    if letter < 0x20 {
+        return b'.';
+    }
+    if letter > 0x7e { b'.' } else { letter }
+}
+
+// The first two columns of a patch's line: the slot's last two digits and the name, each with a space behind it.
+pub fn patch_columns(slot: usize, name: [u8; 10]) -> [u8; 14] {
+    [
+        b'0' + (slot / 10 % 10) as u8,
+        b'0' + (slot % 10) as u8,
+        b' ',
+        printable(name[0]),
+        printable(name[1]),
+        printable(name[2]),
+        printable(name[3]),
+        printable(name[4]),
+        printable(name[5]),
+        printable(name[6]),
+        printable(name[7]),
+        printable(name[8]),
+        printable(name[9]),
+        b' ',
+    ]
+}
+
 // A window over what is read: the bytes from `at` up to `end` of its buffer wait. `ended` says that no more will
 // come, `failed` that a read failed.
 pub struct Window {
@@ -143,6 +172,13 @@ pub fn closed() -> Window {
         ended: false,
         failed: false,
     }
+}
+
+// The bytes that wait.
+pub fn waiting<'a>(buffer: &'a [u8], w: Window) -> &'a [u8] {
+    let end = least(w.end, buffer.len());
+    let at = least(w.at, end);
+    &buffer[at..end]
 }
 
 // Moves the bytes from `at` up to `end` to the buffer's start.

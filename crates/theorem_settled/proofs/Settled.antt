@@ -34,6 +34,10 @@ use Rattle.bank.proofs.number as bank-number
 use Rattle.bank.proofs.channel as bank-channel
 use Rattle.bank.proofs.Reader.number as bank-reader-number
 use Rattle.bank.proofs.Reader.channel as bank-reader-channel
+use Rattle.bank_pieces.proofs.open as pieces-open
+use Rattle.bank_pieces.proofs.end as pieces-end
+use Rattle.bank_pieces.proofs.take as pieces-take
+use Rattle.bank_pieces.specs.Pieces.{Took}
 use Rattle.single.proofs.read as single-read
 use Rattle.single.proofs.write as single-write
 use Rattle.single.proofs.from_packed as single-from-packed
@@ -180,6 +184,12 @@ module _ {M : Type 1} (𝓤 : URA M) (H : Heap 𝓤) (A : Atoms 𝓤) (mem : Mem
 
   -- ---- single-voice dumps
 
+  pub pieces-open-settled : Settled 𝓤 pieces-open.ended (pieces-open.clauses 𝓤 H A mem run)
+  pieces-open-settled κs a g z y ws vs = equal 𝓤 _ z y refl
+
+  pub pieces-end-settled : Settled 𝓤 pieces-end.ended (pieces-end.clauses 𝓤 H A mem run)
+  pieces-end-settled κs a g z y ws vs = equal 𝓤 _ z y refl
+
   pub single-read-settled : Settled 𝓤 single-read.ended (single-read.clauses 𝓤 H A mem run)
   single-read-settled κs a g z y ws vs = equal 𝓤 _ z y refl
 
@@ -325,6 +335,13 @@ module _ {M : Type 1} (𝓤 : URA M) (H : Heap 𝓤) (A : Atoms 𝓤) (mem : Mem
   pub refusals-text-settled : Settled 𝓤 refusals-text.ended (refusals-text.clauses 𝓤 H A mem run)
   refusals-text-settled κs a g z y ws vs =
       both 𝓤 _ _ _ (λ p q. (p .size ∙ sym (q .size), ap (λ x. (tt, (x, tt))) (p .buffer ∙ sym (q .buffer))))
+
+  -- a piece: the answer, and the whole buffer
+  pub pieces-take-settled : Settled 𝓤 pieces-take.ended (pieces-take.clauses 𝓤 H A mem run)
+  pieces-take-settled κs a g z y ws vs = both 𝓤 _ _ _ (λ p q. let e = p ∙ sym q in (
+    ap (λ (x : Took). x .taken) e,
+    ap (λ (x : Took). (tt, (tt, (x .patch, tt)))) e,
+  ))
 
   -- a block: the answer, and the whole block
   pub voice-render-settled : Settled 𝓤 voice-render.ended (voice-render.clauses 𝓤 H A mem run)
