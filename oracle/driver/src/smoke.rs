@@ -2,7 +2,7 @@
 
 use crate::entry::registers::Registers;
 use crate::entry::rust::{put_row, step, with_quarters, with_table};
-use crate::groups::single::agrees_with_hand;
+use crate::groups::{pieces, single};
 use crate::script::generate::Generator;
 use crate::table;
 use crate::wire::answer::Answer;
@@ -26,7 +26,7 @@ use std::hint::black_box;
 type Check = (&'static str, fn() -> bool);
 
 pub fn smoke() -> bool {
-    let checks: [Check; 10] = [
+    let checks: [Check; 12] = [
         ("entries take what is drawn for them", entries_fit),
         ("states read as they are written", forms_fit),
         ("conversions", conversions),
@@ -36,7 +36,9 @@ pub fn smoke() -> bool {
         ("rows put in", rows),
         ("an LFO and two envelopes", lfo_and_envelopes),
         ("two voices' blocks", voices),
-        ("a patch by hand in both forms", agrees_with_hand),
+        ("a patch by hand in both forms", single::agrees_with_hand),
+        ("a dump by hand in pieces", pieces::agrees_with_hand),
+        ("dumps in pieces and whole", || pieces::agrees_with_whole(500)),
     ];
     let failed: Vec<&str> = checks.iter().filter(|(_, check)| !check()).map(|(name, _)| *name).collect();
     failed.iter().for_each(|name| eprintln!("smoke: {name}: not as expected"));

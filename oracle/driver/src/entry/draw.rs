@@ -1,5 +1,6 @@
 //! Random arguments that dwell on edges.
 
+use crate::entry::pieces::Sending;
 use crate::wire::kind::Kind;
 
 /// Powers of two at which casts, roundings and exponents change.
@@ -26,17 +27,18 @@ pub fn quiet(x: f32) -> f32 {
     if x.is_nan() { f32::from_bits(x.to_bits() | 0x0040_0000) } else { x }
 }
 
-/// The randomness of a script (splitmix64), and the call that is being made.
+/// The randomness of a script (splitmix64), the call that is being made, and what later calls go on from.
 pub struct Draw {
     state: u64,
     gate: bool,
     call: Vec<u8>,
+    pub sending: Sending,
 }
 
 #[allow(dead_code)] // later groups use the rest
 impl Draw {
     pub fn new(seed: u64) -> Self {
-        Draw { state: seed, gate: false, call: Vec::new() }
+        Draw { state: seed, gate: false, call: Vec::new(), sending: Sending::default() }
     }
 
     /// A call of this entry begins; its arguments follow.

@@ -1,6 +1,7 @@
 //! What an entry of the table is: its number, name and arguments, how they are drawn, and how the Rust answers.
 
 pub mod draw;
+pub mod pieces;
 pub mod registers;
 pub mod rust;
 pub mod voice;
@@ -22,6 +23,8 @@ pub struct Entry {
     pub draw: Option<fn(&mut Draw)>,
     /// The arguments of a script's first call of it, where they are written by hand.
     pub first: Option<fn(&mut Draw)>,
+    /// Whether a random call of it comes now, where that is not always; where not, another entry is chosen.
+    pub when: Option<fn(&mut Draw) -> bool>,
     /// The calls that go through all that is worth trying, where there is such a list.
     pub every: Option<Every>,
     /// Whether the answer depends on calls before, or calls after depend on this one.
@@ -30,7 +33,8 @@ pub struct Entry {
     pub weight: u32,
 }
 
-/// How many calls there are, and the arguments of each.
+/// How many calls there are, and the arguments of each. A call may be begun anew as one of another entry, so that a list
+/// can hold runs of calls over several.
 pub struct Every {
     pub calls: u64,
     pub draw: fn(u64, &mut Draw),
@@ -44,7 +48,19 @@ pub const fn entry(
     says: &'static str,
     answer: fn(&mut Arguments, &mut Registers, &mut Answer),
 ) -> Entry {
-    Entry { number, name, arguments, says, answer, draw: None, first: None, every: None, state: false, weight: 8 }
+    Entry {
+        number,
+        name,
+        arguments,
+        says,
+        answer,
+        draw: None,
+        first: None,
+        when: None,
+        every: None,
+        state: false,
+        weight: 8,
+    }
 }
 
 #[allow(dead_code)] // later groups use the rest
@@ -55,6 +71,10 @@ impl Entry {
 
     pub const fn first(self, first: fn(&mut Draw)) -> Entry {
         Entry { first: Some(first), ..self }
+    }
+
+    pub const fn when(self, when: fn(&mut Draw) -> bool) -> Entry {
+        Entry { when: Some(when), ..self }
     }
 
     pub const fn every(self, calls: u64, draw: fn(u64, &mut Draw)) -> Entry {

@@ -1,5 +1,6 @@
 //! The states that live between calls. A new group's state is a field here, with its start.
 
+use crate::entry::pieces::Reader;
 use crate::entry::voice::State;
 use plaits::fm::algorithms::Algorithms;
 use plaits::fm::envelope::OperatorEnvelope;
@@ -20,6 +21,8 @@ pub struct Registers {
     pub voice_4: Voice<'static, 4, 32>,
     pub voice_6: Voice<'static, 6, 32>,
     pub voice: State,
+    /// Of a dump that comes in pieces.
+    pub reader: Reader,
 }
 
 impl Registers {
@@ -34,6 +37,7 @@ impl Registers {
             voice_4: Voice::new(),
             voice_6: Voice::new(),
             voice: State::new(),
+            reader: Reader::default(),
         }
     }
 }

@@ -88,7 +88,7 @@ fn number(dump: &[u8], slot: u32) -> u8 {
     if slot > 31 { 2 } else { validate(dump) }
 }
 
-fn part(dump: &[u8], slot: u32) -> &[u8] {
+pub fn part(dump: &[u8], slot: u32) -> &[u8] {
     if number(dump, slot) == 0 { &dump[6 + 128 * slot as usize..][..128] } else { &[] }
 }
 
@@ -102,7 +102,7 @@ pub fn bank(channel: u8, data: &[u8]) -> Vec<u8> {
 }
 
 /// A sound dump on a channel.
-fn sound(draw: &mut Draw, channel: u8) -> Vec<u8> {
+pub fn sound(draw: &mut Draw, channel: u8) -> Vec<u8> {
     let data: Vec<u8> = (0..512).flat_map(|_| (draw.random() & 0x7f7f_7f7f_7f7f_7f7f).to_le_bytes()).collect();
     bank(channel, &data)
 }
@@ -154,9 +154,9 @@ fn every_slot(nth: u64, draw: &mut Draw) {
 
 /// A dump that is whole, or damaged in one place: every frame byte with every value, every data byte above 127, every
 /// checksum, one byte short and long.
-const DUMPS: u64 = 7 * 256 + 4096 + 256 + 3;
+pub const DUMPS: u64 = 7 * 256 + 4096 + 256 + 3;
 
-fn damaged(nth: u64, mut dump: Vec<u8>) -> Vec<u8> {
+pub fn damaged(nth: u64, mut dump: Vec<u8>) -> Vec<u8> {
     match nth {
         0..1792 => dump[[0, 1, 2, 3, 4, 5, 4103][(nth / 256) as usize]] = nth as u8,
         1792..5888 => dump[(nth - 1792 + 6) as usize] |= 0x80,

@@ -7,6 +7,7 @@ pub mod envelope;
 pub mod lfo;
 pub mod numbers;
 pub mod patch;
+pub mod pieces;
 pub mod single;
 pub mod units;
 pub mod voice;
@@ -23,6 +24,7 @@ pub const GROUPS: &[Group] = &[
     Group { name: "numbers", lists: &[numbers::ENTRIES] },
     Group { name: "patches", lists: &[patch::ENTRIES, bank::ENTRIES] },
     Group { name: "singles", lists: &[single::ENTRIES] },
+    Group { name: "pieces", lists: &[pieces::ENTRIES] },
     Group { name: "conversions", lists: &[units::ENTRIES] },
     Group { name: "rows", lists: &[algorithms::ENTRIES] },
     Group { name: "envelopes", lists: &[envelope::ENTRIES] },

@@ -3,15 +3,16 @@
 use crate::entry::Entry;
 use crate::entry::draw::Draw;
 use crate::options::Options;
+use crate::table::{ByNumber, by_number};
 use std::io::{self, Write};
 
 /// The script of a seed over some entries: each of them once, in order, by hand where it has such a call, and then at
-/// random without end. Or, where
-/// every call is asked for, all those that the entries list, one entry after the other.
+/// random without end. Or, where every call is asked for, all those that the entries list, one entry after the other.
 pub struct Generator {
     draw: Draw,
     entries: Vec<&'static Entry>,
     wheel: Vec<&'static Entry>,
+    table: ByNumber,
     every: bool,
     made: u64,
 }
@@ -19,7 +20,8 @@ pub struct Generator {
 impl Generator {
     pub fn new(seed: u64, entries: &[&'static Entry]) -> Self {
         let wheel = entries.iter().flat_map(|&entry| std::iter::repeat_n(entry, entry.weight as usize)).collect();
-        Generator { draw: Draw::new(seed), entries: entries.to_vec(), wheel, every: false, made: 0 }
+        let (draw, entries, table) = (Draw::new(seed), entries.to_vec(), by_number());
+        Generator { draw, entries, wheel, table, every: false, made: 0 }
     }
 
     /// The script that a command line asks for.
@@ -36,7 +38,7 @@ impl Generator {
         }
         let (entry, first) = match self.entries.get(made as usize) {
             Some(&entry) => (entry, entry.first),
-            None => (self.draw.one_of(&self.wheel), None),
+            None => (self.chosen(), None),
         };
         self.draw.begin(entry.number);
         match first.or(entry.draw) {
@@ -46,14 +48,25 @@ impl Generator {
         (entry, self.draw.call())
     }
 
-    /// The call with this number among all that the entries list.
+    /// An entry that comes now, at random by the weights.
+    fn chosen(&mut self) -> &'static Entry {
+        loop {
+            let entry = self.draw.one_of(&self.wheel);
+            if entry.when.is_none_or(|when| when(&mut self.draw)) {
+                return entry;
+            }
+        }
+    }
+
+    /// The call with this number among all that the entries list. Its first byte tells the entry that it is of.
     fn listed(&mut self, mut number: u64) -> (&'static Entry, &[u8]) {
         for entry in &self.entries {
             let Some(every) = &entry.every else { continue };
             if number < every.calls {
                 self.draw.begin(entry.number);
                 (every.draw)(number, &mut self.draw);
-                return (entry, self.draw.call());
+                let call = self.draw.call();
+                return (self.table[call[0] as usize].expect("a listed call is of an entry"), call);
             }
             number -= every.calls;
         }
