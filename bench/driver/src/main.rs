@@ -51,6 +51,7 @@ unsafe extern "C" {
     fn bench_check(bytes: *const u8, len: usize, times: usize) -> u8;
     fn bench_again(bytes: *const u8, len: usize, out: *mut [u8; 128]) -> u8;
     fn bench_voice(bytes: *const u8, len: usize, note: f32, blocks: u32, block: *mut f32, size: usize) -> u32;
+    fn bench_setup(bytes: *const u8, len: usize, times: u32, block: *mut f32, size: usize) -> u32;
     fn bench_identify(bytes: *const u8, len: usize) -> u64;
     fn bench_validate(dump: *const u8, len: usize) -> u8;
     fn bench_pieces(dump: *const u8, len: usize, size: usize) -> u8;
@@ -427,6 +428,40 @@ fn voices(samples: usize) {
     }
 }
 
+/// A patch set up again and again, each time in a blank block of four samples.
+fn setups() {
+    const TIMES: u32 = 1_000;
+    let mut algorithms = Algorithms::<6, 32>::new();
+    algorithms.init();
+    let data = sounding(0);
+    let mut patch = Patch::new();
+    patch.unpack(&data);
+    let mut voice = Voice::<6, 32>::new();
+    voice.init(&algorithms, 48000.0);
+    voice.set_patch(Some(patch));
+    let parameters = VoiceParameters::new();
+    let mut quarters = [[0f32; 4]; 4];
+    let buffers = quarters.each_mut().map(|quarter| RefCell::new(&mut quarter[..]));
+    let (mut block, mut ours) = ([0f32; 16], 0);
+    race(
+        "a blank block, which sets a patch up: ns",
+        TIMES as f64,
+        || ours = unsafe { bench_setup(data.as_ptr(), 128, black_box(TIMES), block.as_mut_ptr(), block.len()) },
+        || {
+            for _ in 0..TIMES {
+                black_box(&mut voice).dirty = true;
+                voice.render(&parameters, &buffers);
+            }
+        },
+    );
+    let mixed_in = |sum: u32, x: &f32| sum.wrapping_mul(31).wrapping_add(x.to_bits());
+    let rust = voice.operator_envelope.iter().zip(&voice.level_headroom).fold(0, |sum, (envelope, headroom)| {
+        let sum = envelope.0.level.iter().fold(sum, mixed_in);
+        mixed_in(envelope.0.increment.iter().fold(sum, mixed_in), headroom)
+    });
+    assert_eq!(ours, rust, "the two sides differ");
+}
+
 /// Many patches: for each of three notes a fresh voice, its blank block and eight of 256 samples.
 fn many_patches() {
     let mut algorithms = Algorithms::<6, 32>::new();
@@ -498,6 +533,7 @@ fn main() {
     patches();
     bank();
     rows();
+    setups();
     for samples in [24, 64, 256, 1024] {
         voices(samples);
     }

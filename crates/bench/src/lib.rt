@@ -423,27 +423,28 @@ fn mixed_call(c: Call) -> u8 {
     c.first ^ c.n ^ c.input ^ c.output ^ (c.add as u8)
 }
 
-// Blocks of a voice, one after the other in the same place; the phase of its last operator.
-fn sounded(
+// Blocks of a voice, one after the other in the same place; the voice afterwards. Where it is made dirty again before
+// each, all are blank, and each sets the patch up.
+fn blocks_in_turn(
     pairs: &[f32; 1024],
     high: &[f32; 256],
     low: &[f32; 256],
     first: Voice,
+    again: bool,
     p: VoiceParameters,
     blocks: u32,
     block: &mut [f32],
-) -> u32 {
+) -> Voice {
     let mut v = first;
     let mut k = 0u32;
     while k < blocks {
+        v.dirty = v.dirty | again;
         let r = voice_render::render_with(pairs, high, low, v, p, block);
         let w = r.voice;
         v = w;
         k += 1;
     }
-    let o = v.operator;
-    let last = o[5];
-    last.phase
+    v
 }
 
 // A fresh voice gets a patch, is blank for a block, and sounds for so many. The tables are made once.
@@ -471,7 +472,66 @@ pub extern "C" fn bench_voice(bytes: &[u8], note: f32, blocks: u32, block: &mut 
     };
     let blank = voice_render::render_with(&pairs, &high, &low, dirty, p, block);
     let clean = blank.voice;
-    sounded(&pairs, &high, &low, clean, p, blocks, block)
+    let v = blocks_in_turn(&pairs, &high, &low, clean, false, p, blocks, block);
+    let o = v.operator;
+    let last = o[5];
+    last.phase
+}
+
+// One float more in a sum.
+fn mixed_in(sum: u32, x: f32) -> u32 {
+    numbers::wrapping_add_u32(numbers::wrapping_mul_u32(sum, 31), numbers::f32_to_bits(x))
+}
+
+fn mixed_stages(sum: u32, x: [f32; 4]) -> u32 {
+    let a = mixed_in(sum, x[0]);
+    let b = mixed_in(a, x[1]);
+    let c = mixed_in(b, x[2]);
+    mixed_in(c, x[3])
+}
+
+// What a patch set up: each operator's levels, increments and headroom.
+fn mixed_setup(v: Voice) -> u32 {
+    let envelopes = v.operator_envelope;
+    let headroom = v.level_headroom;
+    let mut sum = 0u32;
+    let mut i = 0usize;
+    while i < 6 {
+        let e = envelopes[i];
+        let level = e.level;
+        let increment = e.increment;
+        sum = mixed_stages(sum, level);
+        sum = mixed_stages(sum, increment);
+        sum = mixed_in(sum, headroom[i]);
+        i += 1;
+    }
+    sum
+}
+
+// A fresh voice gets a patch, which is set up so many times, each time in a blank block. The tables are made once.
+#[no_mangle]
+pub extern "C" fn bench_setup(bytes: &[u8], times: u32, block: &mut [f32]) -> u32 {
+    let pairs = sine::sine_pairs();
+    let high = units::lut_pitch_ratio_high();
+    let low = units::lut_pitch_ratio_low();
+    let table = algorithms_opcodes::opcodes_6_32();
+    let read = patch::unpack(Patch::new(), bytes);
+    let patch = read.patch;
+    let started = voice::init(6, 48000.0);
+    let fresh = started.voice;
+    let loaded = voice::set_patch(fresh, patch, &table);
+    let dirty = loaded.voice;
+    let p = VoiceParameters {
+        note: 60.0,
+        velocity: 0.8,
+        brightness: 0.5,
+        envelope_control: 0.5,
+        sustain: false,
+        gate: true,
+        pitch_mod: 0.0,
+        amp_mod: 0.0,
+    };
+    mixed_setup(blocks_in_turn(&pairs, &high, &low, dirty, true, p, times, block))
 }
 
 // The identifier of a packed patch.

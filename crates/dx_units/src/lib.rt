@@ -11,6 +11,7 @@ ghost use Rattle.dx_units.specs.Answers.{pitchModSensitivityAnswer, keyb
 ghost use Rattle.dx_units.specs.Answers.{frequencyRatioAnswer, frequencyFits};
 pub use dx_units_inner::Increments;
 pub use dx_units_inner::Ratio;
+pub use dx_units_inner::level_chart;
 pub use dx_units_inner::lut_coarse;
 pub use dx_units_inner::lut_cube_root;
 pub use dx_units_power::pow_2_fast;
@@ -49,7 +50,8 @@ pub fn operator_level(level: u8) -> Level
     if level > largest::WHOLE {
         return Level::Refused(6);
     }
-    Level::Value(dx_units_inner::operator_level(level))
+    let chart = dx_units_inner::level_chart();
+    Level::Value(dx_units_inner::operator_level(&chart, level))
 }
 
 // A pitch envelope's level from 0 to 99 in octaves: 18 is one down, 50 none, 82 one up.

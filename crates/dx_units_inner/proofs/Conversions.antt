@@ -1,12 +1,11 @@
 -- What each conversion gives, from what its calls ensure, over plain variables. Assumes nothing.
-use mathlib.Core.Path.{_≡_, refl}
-use mathlib.Core.Bool.{Bool, true, false}
+use mathlib.Core.Path.{_≡_}
+use mathlib.Core.Bool.{true, false}
 use mathlib.Core.List.{List}
 use Prim.Native.Nat.{ℕ, _+_, _-_, _*_, _/_, _%_, _≤_, _<_, max}
 use native.Mathlib.Nat.{mul-le-mul}
 use native.Mathlib.Omega.{arith}
-use borrow.Author.Tests.{eq-eqb, ne-eqb, lt-ltb, le-ltb, ltb-true, ltb-false}
-use lib.Dec.{ltb}
+use borrow.Author.Tests.{eq-eqb, ne-eqb, lt-ltb, le-ltb}
 use lib.IntN.{ℤ}
 use lib.Ieee.{Float, binary32, neg, lt, ofInt}
 use mir.Syntax.{w32}
@@ -19,37 +18,12 @@ use Rattle.units.specs.Ratio.{ratioOf}
 use Rattle.dx_units_inner.specs.declared.Increments.{Increments}
 use Rattle.dx_units_inner.specs.declared.Ratio.the-variants.{Note, Hertz}
 use Rattle.dx_units_inner.specs.Tables.{lutCubeRoot}
-use Rattle.dx_units_inner.specs.Units.{operatorLevel, pitchEnvelopeLevel, operatorEnvelopeIncrement, lfoSteps}
+use Rattle.dx_units_inner.specs.Units.{pitchEnvelopeLevel, operatorEnvelopeIncrement, lfoSteps}
 use Rattle.dx_units_inner.specs.Units.{lfoFrequency, delaySteps, lfoDelay, normalizedVelocity, bent, sideScaling}
 use Rattle.dx_units_inner.specs.Units.{keyboardScaling, coarseSemitones, baseSemitones, fineFactor}
 use Rattle.dx_units_inner.specs.Units.{frequencyRatio}
 
 -- ---- levels
-
--- n * (36 - n) below 15
-pub product-small : (n : ℕ) → n < 15 → n * (36 - n) ≤ 14 * 36
-product-small n h = let a : n ≤ 14 = omega arith in let b : 36 - n ≤ 36 = omega arith in mul-le-mul a b
-
-pub level-low : (level : ℕ) → level < 15 → level * (36 - level) / 8 ≡ operatorLevel level
-unfolding operatorLevel
-level-low level h = simp (lt-ltb level 20 (omega arith), lt-ltb level 15 h) (omega (arith, product-small level h))
-
-pub level-middle : (level : ℕ) → level < 20 → 15 ≤ level → 27 + level ≡ operatorLevel level
-unfolding operatorLevel
-level-middle level h l = simp (lt-ltb level 20 h, le-ltb level 15 l) (omega arith)
-
-pub level-high : (level : ℕ) → 20 ≤ level → (level + 28) % 256 ≡ operatorLevel level
-unfolding operatorLevel
-level-high level l = simp (le-ltb level 20 l)
-
--- so the headroom, 127 less the level, is no negative number
-pub level-at-most-127 : (level : ℕ) → level ≤ 99 → operatorLevel level ≤ 127
-level-at-most-127 level h = go (ltb level 15) refl (ltb level 20) refl
-  where
-    go : (a : Bool) → ltb level 15 ≡ a → (b : Bool) → ltb level 20 ≡ b → operatorLevel level ≤ 127
-    go true ea b eb = let l = ltb-true level 15 ea in omega (arith, level-low level l, product-small level l)
-    go false ea true eb = omega (arith, level-middle level (ltb-true level 20 eb) (ltb-false level 15 ea))
-    go false ea false eb = omega (arith, level-high level (ltb-false level 20 eb))
 
 pub pitch-level : (level : ℕ) {a t : Float}
     → a ≡ magnitude ((asFloat level ⊖ decimal 50 0) ⊘ decimal 32 0 ⊕ decimal 2 2)

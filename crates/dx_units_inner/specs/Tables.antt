@@ -1,5 +1,6 @@
--- The tables of dx_units.rs, number for number. Definitions only.
+-- The tables of dx_units.rs, number for number, and the chart of levels. Definitions only.
 use mathlib.Core.List.{List, [], _∷_}
+use Prim.Native.Nat.{ℕ}
 use lib.Ieee.{Float}
 use Rattle.numbers.specs.F32.{decimal, minusDecimal}
 
@@ -86,4 +87,19 @@ lutCubeRoot =
     decimal 95646563396 11 ∷
     decimal 97871693135 11 ∷
     decimal 10 1 ∷
+    []
+
+-- the printed chart: the steps of each level from 0 to 99, ten in a row
+unfoldable pub levelChart : List ℕ
+levelChart =
+    0 ∷ 4 ∷ 8 ∷ 12 ∷ 16 ∷ 19 ∷ 22 ∷ 25 ∷ 28 ∷ 30 ∷
+    32 ∷ 34 ∷ 36 ∷ 37 ∷ 38 ∷ 42 ∷ 43 ∷ 44 ∷ 45 ∷ 46 ∷
+    48 ∷ 49 ∷ 50 ∷ 51 ∷ 52 ∷ 53 ∷ 54 ∷ 55 ∷ 56 ∷ 57 ∷
+    58 ∷ 59 ∷ 60 ∷ 61 ∷ 62 ∷ 63 ∷ 64 ∷ 65 ∷ 66 ∷ 67 ∷
+    68 ∷ 69 ∷ 70 ∷ 71 ∷ 72 ∷ 73 ∷ 74 ∷ 75 ∷ 76 ∷ 77 ∷
+    78 ∷ 79 ∷ 80 ∷ 81 ∷ 82 ∷ 83 ∷ 84 ∷ 85 ∷ 86 ∷ 87 ∷
+    88 ∷ 89 ∷ 90 ∷ 91 ∷ 92 ∷ 93 ∷ 94 ∷ 95 ∷ 96 ∷ 97 ∷
+    98 ∷ 99 ∷ 100 ∷ 101 ∷ 102 ∷ 103 ∷ 104 ∷ 105 ∷ 106 ∷ 107 ∷
+    108 ∷ 109 ∷ 110 ∷ 111 ∷ 112 ∷ 113 ∷ 114 ∷ 115 ∷ 116 ∷ 117 ∷
+    118 ∷ 119 ∷ 120 ∷ 121 ∷ 122 ∷ 123 ∷ 124 ∷ 125 ∷ 126 ∷ 127 ∷
     []

@@ -5,7 +5,7 @@
 // old instrument; where a curve has a jump or a corner, it stays.
 ghost use mathlib.Core.Path.{_≡_};
 ghost use Prim.Native.Nat.{_≤_, max};
-ghost use Rattle.dx_units_inner.specs.Tables.{lutCoarse, lutCubeRoot};
+ghost use Rattle.dx_units_inner.specs.Tables.{levelChart, lutCoarse, lutCubeRoot};
 ghost use Rattle.dx_units_inner.specs.Units.{operatorLevel, pitchEnvelopeLevel, operatorEnvelopeIncrement};
 ghost use Rattle.dx_units_inner.specs.Units.{pitchEnvelopeIncrement, lfoSteps, lfoFrequency};
 ghost use Rattle.dx_units_inner.specs.Units.{delaySteps, lfoDelay};
@@ -28,19 +28,20 @@ pub enum Ratio {
 }
 
 // A level from 0 to 99 in steps up to 127, the loudest: what the chip's total level, which counts downwards, leaves of
-// 127. From 20 on a level is one step, so that 99 is 127. Below it falls faster, so that 0 is 0: 15 to 19 lie one step
-// under that line, and up to 14 it is a parabola, level * (36 - level) / 8, of four steps a level at the bottom.
-pub fn operator_level(level: u8) -> u8
+// 127. It is looked up in the chart, lent by a caller. The Rust computes it: from 20 on a level is one step, so that 99
+// is 127; 15 to 19 lie one step under that line; up to 14 it is a parabola, level * (36 - level) / 8, down to 0.
+pub fn operator_level(chart: &[u8; 100], level: u8) -> u8
+    requires { ⌜ (level ≤ 99) × (now chart ≡ levelChart) ⌝ }
     ensures { λ r. ⌜ r ≡ operatorLevel level ⌝ }
 {
-    let tlc = level as u32;
-    if level < 20 {
-        if tlc < 15 {
-            return ((tlc * (36 - tlc)) >> 3) as u8;
-        }
-        return (27 + tlc) as u8;
-    }
-    ((tlc + 28) % 256) as u8
+    chart[level as usize]
+}
+
+// The chart whole, to be made a local once and lent: an array's name is a copy of it.
+pub fn level_chart() -> [u8; 100]
+    ensures { λ r. ⌜ r ≡ levelChart ⌝ }
+{
+    tables::LEVEL_CHART
 }
 
 // A level from 0 to 99 in octaves: 50 is none and 32 levels are one, so 18 is one down and 82 one up. Past an octave a

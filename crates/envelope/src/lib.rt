@@ -141,7 +141,8 @@ pub fn operator_set(envelope: Envelope, rate: [u8; 4], level: [u8; 4], global_le
             envelope: envelope,
         };
     }
-    let set = envelope_inner::operator_set(envelope, rate, level, global_level);
+    let chart = dx_units_inner::level_chart();
+    let set = envelope_inner::operator_set(&chart, envelope, rate, level, global_level);
     Prepared {
         number: 0,
         envelope: set,

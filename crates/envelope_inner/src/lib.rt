@@ -7,6 +7,8 @@ ghost use mathlib.Core.Bool.{cond};
 ghost use Prim.Native.Nat.{_≤_};
 ghost use lib.ListN.{getD};
 ghost use lib.Ieee.{nan};
+ghost use Rattle.dx_units_inner.specs.Tables.{levelChart};
+ghost use Rattle.envelope_stages.specs.Stages.{onChart};
 ghost use Rattle.envelope_inner.specs.declared.Envelope.{Envelope};
 ghost use Rattle.envelope_inner.specs.Envelope.{initialised, startOf, segment, line, levelValue, valueAt};
 ghost use Rattle.envelope_inner.specs.Envelope.{currentValue, gated, movedTo, standing, steppedPhase, advanced};
@@ -328,10 +330,18 @@ fn line(phase: f32, from: f32, to: f32) -> f32
     phase * (to - from) + from
 }
 
-pub fn operator_set(envelope: Envelope, rate: [u8; 4], level: [u8; 4], global_level: u8) -> Envelope
+// The chart of levels is lent: one serves all operators of a patch.
+pub fn operator_set(
+    chart: &[u8; 100],
+    envelope: Envelope,
+    rate: [u8; 4],
+    level: [u8; 4],
+    global_level: u8,
+) -> Envelope
+    requires { ⌜ (now chart ≡ levelChart) × onChart level ⌝ }
     ensures { λ r. ⌜ r ≡ operatorSet envelope rate level «global_level» ⌝ }
 {
-    let levels = envelope_stages::operator_levels(level, global_level);
+    let levels = envelope_stages::operator_levels(chart, level, global_level);
     let increments = envelope_stages::operator_increments(
         rate,
         levels,

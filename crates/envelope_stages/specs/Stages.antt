@@ -2,7 +2,7 @@
 -- Definitions only, all to be believed.
 use mathlib.Core.Bool.{Bool, _&&_, cond}
 use mathlib.Core.List.{List, [], _∷_}
-use Prim.Native.Nat.{ℕ, _+_, _-_, _*_, _/_, _%_}
+use Prim.Native.Nat.{ℕ, _+_, _-_, _*_, _/_, _%_, _≤_}
 use lib.Dec.{eqb, ltb}
 use lib.ListN.{getD}
 use lib.Ieee.{Float, nan, lt, eq, ne}
@@ -24,6 +24,10 @@ unfoldable pub jump : Float
 jump = decimal 67 1
 
 -- ---- operators
+
+-- four levels that the chart has
+abbrev pub onChart : List ℕ → Type 0
+onChart level = (getD level 0 0 ≤ 99) × (getD level 1 0 ≤ 99) × (getD level 2 0 ≤ 99) × (getD level 3 0 ≤ 99)
 
 -- an eighth of the converted level, made even, plus the global level less 133; of a half where that is below 1. 125
 -- might be expected in place of 133, which the Rust remarks and leaves

@@ -1,27 +1,31 @@
 // The levels and increments of an envelope's four stages from a patch's rates and levels, after envelope.rs: what
 // setting an envelope computes. Each function promises its definition.
 ghost use mathlib.Core.Path.{_≡_};
+ghost use Prim.Native.Nat.{_≤_};
+ghost use Rattle.dx_units_inner.specs.Tables.{levelChart};
 ghost use Rattle.envelope_stages.specs.Stages.{operatorStageLevel, risingIncrement, operatorStageIncrement};
-ghost use Rattle.envelope_stages.specs.Stages.{operatorLevels, operatorIncrements};
+ghost use Rattle.envelope_stages.specs.Stages.{onChart, operatorLevels, operatorIncrements};
 ghost use Rattle.envelope_stages.specs.Stages.{pitchStageIncrement, pitchLevels, pitchIncrements};
 
-pub fn operator_levels(level: [u8; 4], global_level: u8) -> [f32; 4]
+pub fn operator_levels(chart: &[u8; 100], level: [u8; 4], global_level: u8) -> [f32; 4]
+    requires { ⌜ (now chart ≡ levelChart) × onChart level ⌝ }
     ensures { λ r. ⌜ r ≡ operatorLevels level «global_level» ⌝ }
 {
     [
-        operator_stage_level(level[0], global_level),
-        operator_stage_level(level[1], global_level),
-        operator_stage_level(level[2], global_level),
-        operator_stage_level(level[3], global_level),
+        operator_stage_level(chart, level[0], global_level),
+        operator_stage_level(chart, level[1], global_level),
+        operator_stage_level(chart, level[2], global_level),
+        operator_stage_level(chart, level[3], global_level),
     ]
 }
 
 // In units of eight steps of the chip's level, which are a factor of 2 in amplitude. 133 is subtracted where one unit
 // less, 125, might be expected, as the Rust remarks; a level that falls below 1 step is half of one, so none is 0.
-fn operator_stage_level(level: u8, global_level: u8) -> f32
+fn operator_stage_level(chart: &[u8; 100], level: u8, global_level: u8) -> f32
+    requires { ⌜ (level ≤ 99) × (now chart ≡ levelChart) ⌝ }
     ensures { λ r. ⌜ r ≡ operatorStageLevel level «global_level» ⌝ }
 {
-    let scaled = dx_units_inner::operator_level(level) as u32 / 2 * 2 + global_level as u32;
+    let scaled = dx_units_inner::operator_level(chart, level) as u32 / 2 * 2 + global_level as u32;
     if scaled < 134 {
         return 0.125 * 0.5;
     }

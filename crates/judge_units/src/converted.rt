@@ -1,4 +1,4 @@
-// The entries 30 to 45 (hex): the crates `dx_units`, `units`, `utils`, `sine` and `random`. An answer
+// The entries 30 to 46 (hex): the crates `dx_units`, `units`, `utils`, `sine` and `random`. An answer
 // stands from place 5 on; the number of a refusal comes first, and a refused value is written as 0.
 use dx_units::Converted;
 use dx_units::Delay;
@@ -11,7 +11,7 @@ use patch::KeyboardScaling;
 pub fn length(entry: u8) -> usize {
     match entry {
         0x31..=0x36 | 0x39 | 0x3a => 2,
-        0x37 | 0x3c..=0x3e | 0x40 | 0x41 | 0x45 => 5,
+        0x37 | 0x3c..=0x3e | 0x40 | 0x41 | 0x45 | 0x46 => 5,
         0x38 | 0x44 => 6,
         0x30 | 0x3f => 9,
         0x3b | 0x42 | 0x43 => 10,
@@ -36,6 +36,7 @@ fn answer_value(entry: u8, s: &[u8], out: &mut [u8]) -> usize {
         0x3d => judge_wire::put_word(out, 5, dx_units::frequency_step(judge_wire::float(s, 1))),
         0x41 => put_drawn(out, random::get_float(judge_wire::word(s, 1))),
         0x45 => judge_wire::put_word(out, 5, random::get_word(judge_wire::word(s, 1))),
+        0x46 => judge_wire::put_byte(out, 5, chart_entry(judge_wire::word(s, 1))),
         _ => judge_wire::put_float(out, 5, value(entry, s)),
     }
 }
@@ -147,6 +148,16 @@ fn at(table: &[f32], place: usize) -> f32 {
         table[place]
     } else {
         0.0
+    }
+}
+
+// A number of the level chart; 0 past its end.
+fn chart_entry(place: u32) -> u8 {
+    let chart = dx_units::level_chart();
+    if place < 100 {
+        chart[place as usize]
+    } else {
+        0
     }
 }
 

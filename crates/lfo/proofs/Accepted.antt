@@ -1,12 +1,12 @@
 -- An accepted step, scrub or reset leaves a state that 9 accepts, and so does setting where the product of its
 -- frequencies is finite and not negative, as it is for a sample rate from 8,000 to 192,000. Assumes nothing.
-use mathlib.Core.Path.{_≡_, refl, sym, subst}
+use mathlib.Core.Path.{_≡_}
 use mathlib.Core.Bool.{Bool, true, false, _&&_, cond}
 use mathlib.Core.List.{List}
-use Prim.Native.Nat.{ℕ, zero, suc, _*_, _≤_, _<_}
+use Prim.Native.Nat.{ℕ, _*_, _≤_, _<_}
 use native.Mathlib.Nat.{mul-pos}
 use native.Mathlib.Omega.{arith}
-use lib.Dec.{T, eqb, ltb→lt}
+use lib.Dec.{T, ltb→lt}
 use lib.IntN.{pos, negsuc}
 use lib.Ieee.{Float, nan, inf, fin, binary32, up, down, lt, le, fits, mul, div, round, ofInt, toSigned}
 use lib.Ieee.Bits.{is-true}
@@ -14,8 +14,9 @@ use lib.Ieee.Fits.{and-i, and-l, and-r, add-fits, sub-fits, mul-fits, cond-fits,
 use lib.Ieee.Order.{round-mono}
 use lib.Ieee.Positive.{positive, between, mul-mono, le→cross}
 use lib.Ieee.Scale.{finite}
-use borrow.Author.Tests.{eqb-true, eqb-false, ne-eqb}
+use borrow.Author.Tests.{ne-eqb}
 use Rattle.numbers.specs.F32.{_⊕_, _⊖_, _⊗_, _⊘_, decimal}
+use Rattle.numbers.proofs.Below.{allBelow, at-each}
 use Rattle.dx_units_inner.specs.Units.{lfoFrequency, lfoSteps}
 use Rattle.patch.specs.declared.ModulationParameters.{ModulationParameters}
 use Rattle.lfo_inner.specs.declared.Lfo.{Lfo}
@@ -145,20 +146,6 @@ reset-phase-fits lfo f = cond-fits binary32 (lfo .«reset_phase») (decimal 0 0)
 rateInRange : ℕ → Bool
 unfolding lfoFrequency lfoSteps decimal mul ofInt
 rateInRange n = positive (lfoFrequency n) && le (fin false 1 (negsuc 3)) (lfoFrequency n) && le (lfoFrequency n) (fin false 1 (pos 5))
-
--- a test for every number below n
-unfoldable pub allBelow : (ℕ → Bool) → ℕ → Bool
-allBelow f zero = true
-allBelow f (suc n) = f n && allBelow f n
-
-pub at-each : (f : ℕ → Bool) (n : ℕ) → T (allBelow f n) → (k : ℕ) → k < n → T (f k)
-unfolding allBelow
-at-each f zero t k h = let z : ⊥ = omega arith in absurd z
-at-each f (suc n) t k h = go (λ l. at-each f n (and-r (f n) (allBelow f n) t) k l) (eqb k n) refl
-  where
-    go : (k < n → T (f k)) → (b : Bool) → eqb k n ≡ b → T (f k)
-    go below true e = subst (λ (i : ℕ). T (f i)) (sym (eqb-true k n e)) (and-l (f n) (allBelow f n) t)
-    go below false e = let z = eqb-false k n e in below (omega arith)
 
 every-rate : T (allBelow rateInRange 100)
 unfolding rateInRange allBelow lfoFrequency lfoSteps decimal mul ofInt round le lt

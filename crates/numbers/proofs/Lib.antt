@@ -4,3 +4,4 @@ pub mod Signed
 pub mod Product
 pub mod Rounded
 pub mod Sizes
+pub mod Below

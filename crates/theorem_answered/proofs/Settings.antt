@@ -12,6 +12,7 @@ use lib.Ieee.Fits.{and-l, and-r}
 use lib.Ieee.Positive.{positive}
 use Rattle.numbers.specs.F32.{_⊗_, _⊘_, decimal, minusDecimal, asFloat}
 use Rattle.numbers.proofs.Views.{no}
+use Rattle.numbers.proofs.Below.{allBelow, at-each}
 use Rattle.units.proofs.Bounds.{Sized, sized, is-sized}
 use Rattle.dx_units_inner.specs.Tables.{lutPitchModSensitivity}
 use Rattle.dx_units_inner.specs.Units.{lfoSteps, lfoFrequency, delaySteps, lfoDelay, pitchModSensitivity}
@@ -20,7 +21,7 @@ use Rattle.patch.specs.Layout.{lfoNames, lfoField, lfoSensitivity}
 use Rattle.patch.specs.Form.{lfoNumber}
 use Rattle.patch.specs.Packed.{within, modulationsFit}
 use Rattle.lfo.proofs.Phases.{FromZero}
-use Rattle.lfo.proofs.Accepted.{allBelow, at-each, positive-from-zero}
+use Rattle.lfo.proofs.Accepted.{positive-from-zero}
 use Rattle.lfo.proofs.Fields.{rate-fits, sensitivity-fits}
 use Rattle.numbers.proofs.Sizes.{Held, held, Share}
 use Rattle.theorem_answered.proofs.Ranges.{is-share}

@@ -13,6 +13,7 @@ use denote.Ref.{RefT, now, ptr}
 use Rattle.bank.specs.Bank.{Handed}
 use Rattle.dx_units_power.proofs.pow_2_fast as pow-2-fast
 use Rattle.dx_units_step.proofs.frequency_step as frequency-step
+use Rattle.dx_units_inner.proofs.level_chart as level-chart
 use Rattle.dx_units.proofs.operator_level as operator-level
 use Rattle.dx_units.proofs.pitch_envelope_level as pitch-envelope-level
 use Rattle.dx_units.proofs.operator_envelope_increment as operator-envelope-increment
@@ -111,6 +112,9 @@ module _ {M : Type 1} (𝓤 : URA M) (H : Heap 𝓤) (A : Atoms 𝓤) (mem : Mem
 
   pub frequency-step-settled : Settled 𝓤 frequency-step.ended (frequency-step.clauses 𝓤 H A mem run)
   frequency-step-settled κs a g z y ws vs = equal 𝓤 _ z y refl
+
+  pub level-chart-settled : Settled 𝓤 level-chart.ended (level-chart.clauses 𝓤 H A mem run)
+  level-chart-settled κs a g z y ws vs = equal 𝓤 _ z y refl
 
   pub operator-level-settled : Settled 𝓤 operator-level.ended (operator-level.clauses 𝓤 H A mem run)
   operator-level-settled κs a g z y ws vs = equal 𝓤 _ z y refl

@@ -3,6 +3,7 @@
 ghost use mathlib.Core.Path.{_≡_};
 ghost use Prim.Native.Nat.{_≤_};
 ghost use lib.Dec.{T};
+ghost use Rattle.dx_units_inner.specs.Tables.{levelChart};
 ghost use Rattle.patch.specs.Packed.{operatorFits, operatorsFit};
 ghost use Rattle.voice_setup.specs.Setup.{headroomOf, operatorSetUp, setUpTo};
 use dx_units_inner::Ratio;
@@ -37,19 +38,20 @@ fn headroom(level: u8) -> f32
 }
 
 fn operator_setup(
+    chart: &[u8; 100],
     high: &[f32; 256],
     low: &[f32; 256],
     e: Envelope,
     op: patch::Operator,
 ) -> OperatorSetup
-    requires { ⌜ T (operatorFits op) ⌝ }
+    requires { ⌜ (now chart ≡ levelChart) × T (operatorFits op) ⌝ }
     ensures { λ r. ⌜ r ≡ operatorSetUp (now (high .entry)) (now (low .entry)) e op ⌝ }
 {
-    let level = dx_units_inner::operator_level(op.level);
+    let level = dx_units_inner::operator_level(chart, op.level);
     let stages = op.envelope;
     let rate = stages.rate;
     let levels = stages.level;
-    let envelope = envelope_inner::operator_set(e, rate, levels, level);
+    let envelope = envelope_inner::operator_set(chart, e, rate, levels, level);
     let level_headroom = headroom(level);
     let ratio = dx_units_inner::frequency_ratio(high, low, op.mode, op.coarse, op.fine, op.detune);
     OperatorSetup {
@@ -59,7 +61,7 @@ fn operator_setup(
     }
 }
 
-// The first `operators` of six; the others stay as they are.
+// The first `operators` of six; the others stay as they are. The chart of levels is made once, for all of them.
 pub fn setup_operators(
     high: &[f32; 256],
     low: &[f32; 256],
@@ -70,12 +72,13 @@ pub fn setup_operators(
     requires { ⌜ (operators ≤ 6) × T (operatorsFit op) ⌝ }
     ensures { λ r. ⌜ r ≡ setUpTo (now (high .entry)) (now (low .entry)) op operators before ⌝ }
 {
+    let chart = dx_units_inner::level_chart();
     let mut s = before;
     let mut i = 0usize;
     while i < operators {
         let e = s.operator_envelope[i];
         let o = op[i];
-        let one = operator_setup(high, low, e, o);
+        let one = operator_setup(&chart, high, low, e, o);
         let envelope = one.envelope;
         let tuned = one.tuned;
         s.operator_envelope[i] = envelope;

@@ -2,6 +2,7 @@
 use mathlib.Core.Path.{sym, _∙_}
 use borrow.Author.Tests.{not-true, not-false, lt-leb, le-leb}
 use Rattle.envelope.specs.Answers.{operatorSetAnswer}
+use Rattle.envelope.proofs.Levels.{levels-on-chart}
 use borrow.Author.Needs.{needs}
 use Rattle.envelope.proofs.operator_set.Statement.{statement}
 use Rattle.envelope.proofs.operator_set.Tie as tie
@@ -17,20 +18,29 @@ returns-2 : tie.Need-returns-2
 unfolding operatorSetAnswer
 returns-2 c = simp (le-leb _ _ (c .before .before .if1 .left), sym (c .before .operator-fits .ensures) ∙ not-true (c .before .operator-fits .result) (c .if2 .taken))
 
+level-chart-requires : tie.Need-level-chart-requires
+level-chart-requires c κs = search needs
+
 operator-set-requires : tie.Need-operator-set-requires
-operator-set-requires c κs = search needs
+operator-set-requires c κs =
+    let at-if2 = c .before .before in
+    let fits = at-if2 .before .operator-fits in (
+      c .before .level-chart .ensures,
+      levels-on-chart _ _ _ (sym (fits .ensures) ∙ not-false (fits .result) (at-if2 .if2 .left)),
+    )
 
 returns-3 : tie.Need-returns-3
 unfolding operatorSetAnswer
 returns-3 c =
-    let at-if1 = c .before .before .before in
+    let at-if2 = c .before .before .before in
+    let fits = at-if2 .before .operator-fits in
     simp (
-      le-leb _ _ (at-if1 .if1 .left),
-      sym (c .before .before .operator-fits .ensures) ∙ not-false
-          (c .before .before .operator-fits .result) (c .before .if2 .left),
+      le-leb _ _ (at-if2 .before .before .if1 .left),
+      sym (fits .ensures) ∙ not-false (fits .result) (at-if2 .if2 .left),
       c .operator-set .ensures,
     )
 
 pub operator-set-spec : {M : Type 1} → statement M
 operator-set-spec =
-    tie.close (tie.spec returns operator-fits-requires returns-2 operator-set-requires returns-3)
+    tie.close
+    (tie.spec returns operator-fits-requires returns-2 level-chart-requires operator-set-requires returns-3)

@@ -2,6 +2,7 @@
 use native.Mathlib.Omega.{arith}
 use mathlib.Core.Path.{_≡_, refl}
 use Prim.Native.Nat.{_-_, _≤_}
+use borrow.Author.Needs.{needs}
 use Rattle.voice_setup.specs.Setup.{putAt, setUpTo}
 use Rattle.patch.specs.Form.{operatorAt, noOperator, scalingWith}
 use Rattle.voice_setup.proofs.Operators.{operator-at-fits, set-up-next}
@@ -10,11 +11,14 @@ use Rattle.voice_setup.proofs.setup_operators.Tie as tie
 use Rattle.voice_setup.proofs.operator_setup.Reads as operator-setup-reads
 
 abbrev Inv-loop : tie.InvT-loop
-Inv-loop high low operators op s₀ i₀ s i =
+Inv-loop high low operators op chart s₀ i₀ s i =
     (i ≤ operators) × (s ≡ setUpTo high low op i s₀)
 
 abbrev μ-loop : tie.MeasureT-loop
-μ-loop high low operators op s₀ i₀ s i = operators - i
+μ-loop high low operators op chart s₀ i₀ s i = operators - i
+
+level-chart-requires : tie.Need-level-chart-requires Inv-loop μ-loop
+level-chart-requires c κs = search needs
 
 loop-holds : tie.Need-loop-holds Inv-loop μ-loop
 unfolding setUpTo
@@ -35,8 +39,8 @@ array-copy-out-o c = omega arith
 operator-setup-requires : tie.Need-operator-setup-requires Inv-loop μ-loop
 unfolding operatorAt noOperator scalingWith
 operator-setup-requires c κs =
-    let at-pre = c .before .before .before .before in
-    operator-at-fits _ _ (omega arith) (at-pre .pre .1)
+    let at-chart = c .before .before .before .before .before in
+    (at-chart .level-chart .ensures, operator-at-fits _ _ (omega arith) (at-chart .before .pre .1))
 
 mul-envelope : tie.Need-mul-envelope Inv-loop μ-loop
 mul-envelope c = omega arith
@@ -66,12 +70,12 @@ loop-again : tie.Need-loop-again Inv-loop μ-loop
 unfolding operatorAt noOperator scalingWith putAt
 loop-again c =
     let far = c .before .before .before .before in
-    let at-loop = far .before .before in
+    let at-loop = far .before .before .before in
     (omega (arith, far), set-up-next _ _ _ _ _ (at-loop .loop .inv .1) (c .before .before .operator-setup .ensures))
 
 returns : tie.Need-returns Inv-loop μ-loop
 returns c =
-    let i : c .before .loop .i ≡ c .before .before .args .operators = omega arith in
+    let i : c .before .loop .i ≡ c .before .before .before .args .operators = omega arith in
     rw i at (c .before .loop .inv .1)
 
 pub setup-operators-spec : {M : Type 1} → statement M
@@ -80,6 +84,7 @@ setup-operators-spec =
     (tie.spec
     Inv-loop
     μ-loop
+    level-chart-requires
     loop-holds
     mul-e
     element-copy-out-e

@@ -189,7 +189,23 @@ pub const ENTRIES: &[Entry] = &[
         draw.u32((nth % 700) as u32);
     }),
     entry(0x45, "get_word", &[U32], "u32", |given, _, answer| answer.u32(drawn(given.u32(), random::get_word).0)),
+    entry(0x46, "level_chart", &[U32], "u8, 0 past the end", |given, _, answer| {
+        let level = given.u32();
+        answer.name("level").u8(if level < 100 { operator_level(level as u8) } else { 0 });
+    })
+    .drawn(|draw| {
+        let level = match draw.below(4) {
+            0 => draw.any_u32(),
+            1 => draw.below(256),
+            _ => draw.below(100),
+        };
+        draw.u32(level);
+    })
+    .every(CHARTED + 16 * 200, every_place),
 ];
+
+/// So many places of the chart from 0 on, all but 100 of them past its end.
+const CHARTED: u64 = 65_536;
 
 const LOOKUP: &str = "f32; table 0 sine, 1 high ratios, else low; at its last entry and past it that entry";
 
@@ -270,6 +286,13 @@ fn one(draw: &mut Draw, most: u8) {
 
 fn every_u8(nth: u64, draw: &mut Draw) {
     draw.u8(nth as u8);
+}
+
+/// Places from 0 on; then those around each power of two from 2^16 on, which a shorter number would take for lower ones.
+fn every_place(nth: u64, draw: &mut Draw) {
+    let past = nth.wrapping_sub(CHARTED);
+    let around = (1u64 << (16 + past / 200)) + past % 200 - 100;
+    draw.u32(if nth < CHARTED { nth as u32 } else { around as u32 });
 }
 
 /// The float pattern with this number among `n` that are spread evenly over all.
