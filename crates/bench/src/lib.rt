@@ -447,20 +447,20 @@ fn blocks_in_turn(
     v
 }
 
-// A fresh voice gets a patch, is blank for a block, and sounds for so many. The tables are made once.
-#[no_mangle]
-pub extern "C" fn bench_voice(bytes: &[u8], note: f32, blocks: u32, block: &mut [f32]) -> u32 {
-    let pairs = sine::sine_pairs();
-    let high = units::lut_pitch_ratio_high();
-    let low = units::lut_pitch_ratio_low();
+// A fresh voice with the patch of packed bytes, which its first block sets up.
+fn loaded(bytes: &[u8]) -> Voice {
     let table = algorithms_opcodes::opcodes_6_32();
     let read = patch::unpack(Patch::new(), bytes);
     let patch = read.patch;
     let started = voice::init(6, 48000.0);
     let fresh = started.voice;
-    let loaded = voice::set_patch(fresh, patch, &table);
-    let dirty = loaded.voice;
-    let p = VoiceParameters {
+    let set = voice::set_patch(fresh, patch, &table);
+    set.voice
+}
+
+// A key that is down.
+fn played(note: f32) -> VoiceParameters {
+    VoiceParameters {
         note,
         velocity: 0.8,
         brightness: 0.5,
@@ -469,8 +469,17 @@ pub extern "C" fn bench_voice(bytes: &[u8], note: f32, blocks: u32, block: &mut 
         gate: true,
         pitch_mod: 0.0,
         amp_mod: 0.0,
-    };
-    let blank = voice_render::render_with(&pairs, &high, &low, dirty, p, block);
+    }
+}
+
+// A voice is blank for a block, and sounds for so many. The tables are made once.
+#[no_mangle]
+pub extern "C" fn bench_voice(bytes: &[u8], note: f32, blocks: u32, block: &mut [f32]) -> u32 {
+    let pairs = sine::sine_pairs();
+    let high = units::lut_pitch_ratio_high();
+    let low = units::lut_pitch_ratio_low();
+    let p = played(note);
+    let blank = voice_render::render_with(&pairs, &high, &low, loaded(bytes), p, block);
     let clean = blank.voice;
     let v = blocks_in_turn(&pairs, &high, &low, clean, false, p, blocks, block);
     let o = v.operator;
@@ -508,30 +517,23 @@ fn mixed_setup(v: Voice) -> u32 {
     sum
 }
 
-// A fresh voice gets a patch, which is set up so many times, each time in a blank block. The tables are made once.
+// A voice's patch is set up so many times, each time in a blank block. The tables are made once.
 #[no_mangle]
 pub extern "C" fn bench_setup(bytes: &[u8], times: u32, block: &mut [f32]) -> u32 {
     let pairs = sine::sine_pairs();
     let high = units::lut_pitch_ratio_high();
     let low = units::lut_pitch_ratio_low();
-    let table = algorithms_opcodes::opcodes_6_32();
-    let read = patch::unpack(Patch::new(), bytes);
-    let patch = read.patch;
-    let started = voice::init(6, 48000.0);
-    let fresh = started.voice;
-    let loaded = voice::set_patch(fresh, patch, &table);
-    let dirty = loaded.voice;
-    let p = VoiceParameters {
-        note: 60.0,
-        velocity: 0.8,
-        brightness: 0.5,
-        envelope_control: 0.5,
-        sustain: false,
-        gate: true,
-        pitch_mod: 0.0,
-        amp_mod: 0.0,
-    };
-    mixed_setup(blocks_in_turn(&pairs, &high, &low, dirty, true, p, times, block))
+    let v = blocks_in_turn(
+        &pairs,
+        &high,
+        &low,
+        loaded(bytes),
+        true,
+        played(60.0),
+        times,
+        block,
+    );
+    mixed_setup(v)
 }
 
 // The identifier of a packed patch.

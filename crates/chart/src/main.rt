@@ -22,7 +22,11 @@ fn print_words() -> bool {
         c,
         b"and 127 the loudest. A row's level and a column's are added: level 47, in row 40 under +7, has 75 steps.",
     );
-    line(d, b"")
+    let e = line(
+        d,
+        b"`./run chart` prints this page from the numbers in which the engine looks a level up.",
+    );
+    line(e, b"")
 }
 
 fn print_columns(going: bool) -> bool {

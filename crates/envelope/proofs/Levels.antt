@@ -11,7 +11,8 @@ use Rattle.patch.proofs.Each.{each-within}
 use Rattle.envelope_stages.specs.Stages.{onChart}
 use Rattle.envelope.specs.Answers.{operatorFits, pitchFits}
 
-pub levels-on-chart : (rate level : List ℕ) (globalLevel : ℕ) → operatorFits rate level globalLevel ≡ true → onChart level
+pub levels-on-chart : (rate level : List ℕ) (globalLevel : ℕ)
+    → operatorFits rate level globalLevel ≡ true → onChart level
 unfolding operatorFits pitchFits stagesFit stages envelopeField
 levels-on-chart rate level globalLevel h =
     let a = and-eq-true-iff (pitchFits rate level) (leb globalLevel 127) .0 h .0 in

@@ -1,5 +1,6 @@
--- What a patch's modulations set an LFO at 48,000 Hz to: its phase grows by less than 1 in 64 samples, its delay's increments are above 0, its depths
--- are from 0 to 1, and its pitch sensitivity is at most 2. A test over each field's numbers, which antt computes. Assumes nothing.
+-- What a patch's modulations set an LFO at 48,000 Hz to: its phase grows by less than 1 in 64 samples, its delay's
+-- increments are above 0, its depths are from 0 to 1, and its pitch sensitivity is at most 2. A test over each field's
+-- numbers, which antt computes. Assumes nothing.
 use mathlib.Core.Path.{_≡_, refl}
 use mathlib.Core.Bool.{Bool, true, false, _&&_}
 use Prim.Native.Nat.{ℕ, _≤_}

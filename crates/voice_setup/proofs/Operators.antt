@@ -23,7 +23,8 @@ use Rattle.voice_setup.specs.declared.Setup.{Setup}
 use Rattle.voice_setup.specs.Setup.{envelopeAt, headroomOf, operatorSetUp, putAt, setUpTo}
 
 -- an operator of six that fit
-pub operator-at-fits : (ops : List Operator) (k : ℕ) → k < 6 → T (operatorsFit ops) → T (operatorFits (operatorAt ops k))
+pub operator-at-fits : (ops : List Operator) (k : ℕ) → k < 6
+    → T (operatorsFit ops) → T (operatorFits (operatorAt ops k))
 unfolding operatorsFit allBelow
 operator-at-fits ops k h t = at-each (λ i. operatorFits (operatorAt ops i)) 6 t k h
 
@@ -32,8 +33,10 @@ pub within-at : {N : Type 0} (field : N → Field) (g : N → ℕ) (past : N) (n
     → i < length ns → T (within field g ns) → g (getD ns i past) ≤ field (getD ns i past) .largest
 unfolding within
 within-at field g past [] i h t = absurd (omega arith)
-within-at field g past (n ∷ ns) zero h t = leb→le (g n) (field n .largest) (and-l (leb (g n) (field n .largest)) (within field g ns) t)
-within-at field g past (n ∷ ns) (suc i) h t = within-at field g past ns i (omega arith) (and-r (leb (g n) (field n .largest)) (within field g ns) t)
+within-at field g past (n ∷ ns) zero h t =
+    leb→le (g n) (field n .largest) (and-l (leb (g n) (field n .largest)) (within field g ns) t)
+within-at field g past (n ∷ ns) (suc i) h t =
+    within-at field g past ns i (omega arith) (and-r (leb (g n) (field n .largest)) (within field g ns) t)
 
 -- the limits that the conversions ask for
 pub record Limits (o : Operator) : Type 0 where

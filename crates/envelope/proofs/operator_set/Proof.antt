@@ -16,7 +16,9 @@ operator-fits-requires c κs = search needs
 
 returns-2 : tie.Need-returns-2
 unfolding operatorSetAnswer
-returns-2 c = simp (le-leb _ _ (c .before .before .if1 .left), sym (c .before .operator-fits .ensures) ∙ not-true (c .before .operator-fits .result) (c .if2 .taken))
+returns-2 c =
+    let fits = c .before .operator-fits in
+    simp (le-leb _ _ (c .before .before .if1 .left), sym (fits .ensures) ∙ not-true (fits .result) (c .if2 .taken))
 
 level-chart-requires : tie.Need-level-chart-requires
 level-chart-requires c κs = search needs

@@ -288,7 +288,7 @@ fn every_u8(nth: u64, draw: &mut Draw) {
     draw.u8(nth as u8);
 }
 
-/// Places from 0 on; then those around each power of two from 2^16 on, which a shorter number would take for lower ones.
+/// Places from 0 on; then those around each power of two from 2^16 on, which a shorter number takes for lower ones.
 fn every_place(nth: u64, draw: &mut Draw) {
     let past = nth.wrapping_sub(CHARTED);
     let around = (1u64 << (16 + past / 200)) + past % 200 - 100;
