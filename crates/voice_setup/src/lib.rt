@@ -72,8 +72,9 @@ pub fn setup_operators(
     requires { ⌜ (operators ≤ 6) × T (operatorsFit op) ⌝ }
     ensures { λ r. ⌜ r ≡ setUpTo (now (high .entry)) (now (low .entry)) op operators before ⌝ }
 {
-    let chart = dx_units_inner::level_chart();
+    // In this order: behind the chart's making, `before` would be copied once more.
     let mut s = before;
+    let chart = dx_units_inner::level_chart();
     let mut i = 0usize;
     while i < operators {
         let e = s.operator_envelope[i];

@@ -11,11 +11,11 @@ use Rattle.voice_setup.proofs.setup_operators.Tie as tie
 use Rattle.voice_setup.proofs.operator_setup.Reads as operator-setup-reads
 
 abbrev Inv-loop : tie.InvT-loop
-Inv-loop high low operators op chart s₀ i₀ s i =
+Inv-loop high low operators op s₀ chart i₀ s i =
     (i ≤ operators) × (s ≡ setUpTo high low op i s₀)
 
 abbrev μ-loop : tie.MeasureT-loop
-μ-loop high low operators op chart s₀ i₀ s i = operators - i
+μ-loop high low operators op s₀ chart i₀ s i = operators - i
 
 level-chart-requires : tie.Need-level-chart-requires Inv-loop μ-loop
 level-chart-requires c κs = search needs
