@@ -67,11 +67,16 @@ fn silent() -> Single {
 
 // An operator as the last block left it, at the start of the next one of `size` samples.
 fn entered(s: Single, size: u32, frequency: f32, target: f32) -> Single {
-    let step = dx_units::frequency_step(frequency);
+    let stepped = dx_units::frequency_step(frequency);
     let l = s.first;
     let f = s.feedback;
     Single {
-        first: operator::enter(operator::leave(l), step, target, operator::ramp_scale(size)),
+        first: operator::enter(
+            operator::leave(l),
+            stepped.step,
+            target,
+            operator::ramp_scale(size),
+        ),
         feedback: f,
     }
 }

@@ -5,7 +5,7 @@ use Rattle.numbers.specs.F32.{decimal, minusDecimal}
 use Rattle.numbers.specs.Extremes.{minimum}
 use Rattle.dx_units.specs.Answers.{operatorLevelAnswer, operatorEnvelopeIncrementAnswer}
 use Rattle.dx_units_inner.specs.Units.{operatorLevel, operatorEnvelopeIncrement}
-use Rattle.dx_units_step.specs.Step.{stepFor}
+use Rattle.dx_units_step.specs.Step.{stepFor, markFor}
 use Rattle.patch.specs.Layout.{envelopeField, operatorField}
 use Rattle.algorithms.specs.Opcode.{destination, adding, source, flagged}
 use Rattle.algorithms.specs.Chain.{lastOperator, unmet, ends, grown, reused, chained, originFrom, modulation, known}
@@ -19,7 +19,7 @@ use Rattle.refusals.specs.Refusals.{letters}
 use Rattle.cases_proved.specs.Cases.{textOf, AllHold, cases}
 
 pub cases-hold : AllHold cases
-unfolding operatorLevelAnswer operatorLevel operatorEnvelopeIncrementAnswer operatorEnvelopeIncrement stepFor minimum
+unfolding operatorLevelAnswer operatorLevel operatorEnvelopeIncrementAnswer operatorEnvelopeIncrement stepFor markFor minimum
     envelopeField operatorField decimal minusDecimal ofInt div mul lt isNan toUnsigned
     destination adding source flagged lastOperator unmet ends grown reused chained originFrom modulation known renders
     callLength rendered

@@ -1,4 +1,4 @@
--- The worked cases of document 01, P1 to P15, as rows of one list. A kind of row has a constructor and a line of
+-- The worked cases of document 01, P1 to P15, as rows of one list; P8 to P11 with the marks of document 02's request e. A kind of row has a constructor and a line of
 -- `Holds`. Definitions only, all to be believed.
 use mathlib.Core.Path.{_≡_}
 use mathlib.Core.List.{List, [], _∷_, _++_}
@@ -14,7 +14,9 @@ use Rattle.dx_units.specs.declared.Level.the-variants as level
 use Rattle.dx_units.specs.declared.Converted.{Converted}
 use Rattle.dx_units.specs.declared.Converted.the-variants as converted
 use Rattle.dx_units.specs.Answers.{operatorLevelAnswer, operatorEnvelopeIncrementAnswer}
-use Rattle.dx_units_step.specs.Step.{stepFor}
+use Rattle.dx_units_step.specs.declared.Mark.{Mark}
+use Rattle.dx_units_step.specs.declared.Mark.the-variants.{AsAsked, HeldAtTop, HeldAtZero}
+use Rattle.dx_units_step.specs.Step.{steppedFor}
 use Rattle.algorithms.specs.Plan.{refusal, planned}
 use Rattle.algorithms.specs.Table.{six}
 use Rattle.algorithms.specs.declared.Call.{Call}
@@ -28,7 +30,7 @@ use Rattle.refusals.specs.Refusals.{letters}
 pub data Case : Type 0 where
   operatorLevel : ℕ → Level → Case
   envelopeRate : ℕ → Converted → Case
-  step : Float → ℕ → Case
+  step : Float → ℕ → Mark → Case
   phaseMoved : ℕ → ℕ → ℕ → Case
   rowAccepted : List ℕ → List Call → List String → Case
   rowRefused : List ℕ → ℕ → ℕ → Case
@@ -51,7 +53,7 @@ textOf (line ∷ lines) = letters line ++ (10 ∷ textOf lines)
 abbrev pub Holds : Case → Type 0
 Holds (operatorLevel n answer) = operatorLevelAnswer n ≡ answer
 Holds (envelopeRate n answer) = operatorEnvelopeIncrementAnswer n ≡ answer
-Holds (step frequency answer) = stepFor frequency ≡ answer
+Holds (step frequency answer mark) = steppedFor frequency ≡ record { step = answer; mark = mark }
 Holds (phaseMoved phase by answer) =
     (amplitude increment : Float) → moved (lane phase by amplitude increment) .phase ≡ answer
 Holds (rowAccepted row calls lines) =
@@ -92,10 +94,10 @@ cases =
     ∷ operatorLevel 99 (level.Value 127)  -- P5
     ∷ envelopeRate 0 (converted.Value (fin false 1 (negsuc 19)))  -- P6: 2 ^ -20
     ∷ envelopeRate 99 (converted.Value (decimal 546875 7))  -- P7
-    ∷ step (decimal 5 1) (2 ^ 31)  -- P8
-    ∷ step (decimal 75 2) (2 ^ 31)  -- P9
-    ∷ step (minusDecimal 25 2) 0  -- P10
-    ∷ step nan (2 ^ 31)  -- P11
+    ∷ step (decimal 5 1) (2 ^ 31) AsAsked  -- P8
+    ∷ step (decimal 75 2) (2 ^ 31) HeldAtTop  -- P9
+    ∷ step (minusDecimal 25 2) 0 HeldAtZero  -- P10
+    ∷ step nan (2 ^ 31) HeldAtTop  -- P11
     ∷ phaseMoved (2 ^ 31) (2 ^ 31) 0  -- P12
     ∷ rowAccepted (0x71 ∷ 0x14 ∷ 0x01 ∷ 0x14 ∷ [])  -- P13
     (sets 0 1 3 1 ∷ adds 1 1 1 0 ∷ sets 2 1 0 1 ∷ adds 3 1 1 0 ∷ []) printed

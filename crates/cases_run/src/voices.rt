@@ -1,8 +1,11 @@
 // Voices: what was given, and what came back.
 use crate::heading;
 use crate::line;
+use dx_units_step::Mark;
+use dx_units_step::Marked;
 use patch::Patch;
 use voice::Voice;
+use voice_render::Rendered;
 use voice_render::VoiceParameters;
 
 fn parameters(note: f32) -> VoiceParameters {
@@ -18,17 +21,36 @@ fn parameters(note: f32) -> VoiceParameters {
     }
 }
 
-// A voice of six operators that has the patch of zeros.
-fn dirty() -> Voice {
-    let zeros = [0u8; 128];
+// A voice of six operators that has a packed patch.
+fn loaded(packed: &[u8]) -> Voice {
     let table = algorithms_opcodes::opcodes_6_32();
-    let read = patch::unpack(Patch::new(), &zeros);
+    let read = patch::unpack(Patch::new(), packed);
     let p = read.patch;
     let started = voice::init(6, 48000.0);
     let fresh = started.voice;
-    let loaded = voice::set_patch(fresh, p, &table);
-    let v = loaded.voice;
+    let set = voice::set_patch(fresh, p, &table);
+    let v = set.voice;
     v
+}
+
+// One with the patch of zeros.
+fn dirty() -> Voice {
+    let zeros = [0u8; 128];
+    loaded(&zeros)
+}
+
+// One whose every second operator has 31 times the note's frequency, the others half of it; its pitch envelope stands at
+// 50, which is none.
+fn high() -> Voice {
+    let mut packed = [0u8; 128];
+    packed[15] = 62;
+    packed[49] = 62;
+    packed[83] = 62;
+    packed[106] = 50;
+    packed[107] = 50;
+    packed[108] = 50;
+    packed[109] = 50;
+    loaded(&packed)
 }
 
 fn started(going: bool, text: &[u8], operators: usize, sample_rate: f32) -> bool {
@@ -75,6 +97,46 @@ fn blocks(going: bool) -> bool {
     rendered(c, b"block of 4100 numbers: ", 60.0, &mut more)
 }
 
+// A mark's digit: 0 as asked, 1 held at the top, 2 held at zero.
+fn digit(m: Marked) -> u8 {
+    let mark = m.mark;
+    match mark {
+        Mark::AsAsked => b'0',
+        Mark::HeldAtTop => b'1',
+        Mark::HeldAtZero => b'2',
+    }
+}
+
+fn marked(going: bool, text: &[u8], r: Rendered) -> bool {
+    if !going {
+        return false;
+    }
+    let m = r.marks;
+    let digits = [
+        digit(m[0]),
+        digit(m[1]),
+        digit(m[2]),
+        digit(m[3]),
+        digit(m[4]),
+        digit(m[5]),
+    ];
+    streams::print_line(b"", text, &digits)
+}
+
+// At note 100 and 48,000 Hz 31 times the frequency is above half the sample rate.
+fn marks(going: bool) -> bool {
+    let mut block = [0.0f32; 8];
+    let blank = voice_render::render(high(), parameters(100.0), &mut block);
+    let v = blank.voice;
+    let a = marked(going, b"marks of a blank block: ", blank);
+    let sounding = voice_render::render(v, parameters(100.0), &mut block);
+    let b = marked(a, b"marks of a sounding block: ", sounding);
+    let refused = voice_render::render(v, parameters(128.0), &mut block);
+    let c = marked(b, b"marks of a refused block: ", refused);
+    let empty = voice_render::render(v, parameters(100.0), &mut block[..0]);
+    marked(c, b"marks of an empty block: ", empty)
+}
+
 fn taken_out(going: bool, text: &[u8], v: Voice) -> bool {
     line(going, text, voice::take_patch(v).number as u64)
 }
@@ -95,5 +157,6 @@ pub fn run(going: bool) -> bool {
     let b = starts(a);
     let c = gates(b);
     let d = blocks(c);
-    refusals(d)
+    let e = marks(d);
+    refusals(e)
 }

@@ -15,6 +15,8 @@ pub use dx_units_inner::level_chart;
 pub use dx_units_inner::lut_coarse;
 pub use dx_units_inner::lut_cube_root;
 pub use dx_units_power::pow_2_fast;
+pub use dx_units_step::Mark;
+pub use dx_units_step::Stepped;
 pub use dx_units_step::frequency_step;
 use patch::KeyboardScaling;
 use patch::largest;

@@ -25,7 +25,8 @@ use Rattle.voice.specs.declared.Prepared.{Prepared}
 use Rattle.voice.specs.declared.Loaded.{Loaded}
 use Rattle.voice.specs.Answers as voice
 use Rattle.voice_render.specs.declared.VoiceParameters.{VoiceParameters}
-use Rattle.voice_render.specs.Answers.{Answered, renderAnswer}
+use Rattle.voice_render.specs.declared.Rendered.{Rendered}
+use Rattle.voice_render.specs.Answers.{Answered, answeredBy, renderAnswer}
 use Rattle.identity.specs.declared.Ready.{Ready}
 use Rattle.identity.specs.declared.Playing.{Playing}
 use Rattle.identity.specs.declared.Identified.{Identified}
@@ -59,18 +60,18 @@ unfolding readied
 readied-of p et em el es eset er en = rw (en, er, eset, es, el, em, et) refl
 
 module _ (pairs high low : List Float) where
-  pub set-up-of : (v : Voice) (note : Float) {q : VoiceParameters} {number : ℕ} {w : Voice} {block : List Float} → q ≡ parametersOf note false (decimal 0 0) (decimal 0 0)
-      → record { number = number; voice = w; block = block } ≡ renderAnswer pairs high low v q silence → w ≡ setUpFor pairs high low v note
+  pub set-up-of : (v : Voice) (note : Float) {q : VoiceParameters} {r : Rendered} {block : List Float} → q ≡ parametersOf note false (decimal 0 0) (decimal 0 0)
+      → answeredBy r block ≡ renderAnswer pairs high low v q silence → r .voice ≡ setUpFor pairs high low v note
   unfolding setUpFor
   set-up-of v note eq e = ap (λ (a : Answered). a .voice) (rw eq at e)
 
 module _ (lut pairs high low : List Float) where
-  pub block-played-of : (note : Float) (gate : Bool) (s : Playing) {m : Moved} {pitch amp : Read} {q : VoiceParameters} {number hash : ℕ} {w : Voice} {block : List Float}
+  pub block-played-of : (note : Float) (gate : Bool) (s : Playing) {m : Moved} {pitch amp : Read} {q : VoiceParameters} {r : Rendered} {hash : ℕ} {block : List Float}
       → m ≡ lfo.stepAnswer lut (s .lfo) (s .random) (decimal 64 0) → pitch ≡ lfo.pitchModAnswer (m .lfo) → amp ≡ lfo.ampModAnswer (m .lfo)
       → q ≡ parametersOf note gate (pitch .value) (amp .value)
-      → record { number = number; voice = w; block = block } ≡ renderAnswer pairs high low (s .voice) q silence
+      → answeredBy r block ≡ renderAnswer pairs high low (s .voice) q silence
       → hash ≡ hashedSamples block 64 (s .hash)
-      → record { voice = w; lfo = m .lfo; random = m .state; hash = hash } ≡ blockPlayed lut pairs high low note gate s
+      → record { voice = r .voice; lfo = m .lfo; random = m .state; hash = hash } ≡ blockPlayed lut pairs high low note gate s
   unfolding blockPlayed
   block-played-of note gate s em ep ea eq er eh =
       let here = rw (eq, ep, ea, em) at er in

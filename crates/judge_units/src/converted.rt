@@ -3,7 +3,9 @@
 use dx_units::Converted;
 use dx_units::Delay;
 use dx_units::Level;
+use dx_units::Mark;
 use dx_units::Ratio;
+use dx_units::Stepped;
 use dx_units::Tuning;
 use patch::KeyboardScaling;
 
@@ -33,7 +35,7 @@ pub fn answer(entry: u8, s: &[u8], out: &mut [u8]) -> usize {
 // The same for an entry that refuses nothing.
 fn answer_value(entry: u8, s: &[u8], out: &mut [u8]) -> usize {
     match entry {
-        0x3d => judge_wire::put_word(out, 5, dx_units::frequency_step(judge_wire::float(s, 1))),
+        0x3d => put_stepped(out, dx_units::frequency_step(judge_wire::float(s, 1))),
         0x41 => put_drawn(out, random::get_float(judge_wire::word(s, 1))),
         0x45 => judge_wire::put_word(out, 5, random::get_word(judge_wire::word(s, 1))),
         0x46 => judge_wire::put_byte(out, 5, chart_entry(judge_wire::word(s, 1))),
@@ -182,6 +184,21 @@ fn put_level(out: &mut [u8], x: Level) -> usize {
             let behind = judge_wire::put_byte(out, 5, number);
             judge_wire::put_byte(out, behind, 0)
         }
+    }
+}
+
+fn put_stepped(out: &mut [u8], x: Stepped) -> usize {
+    let mark = x.mark;
+    let behind = judge_wire::put_word(out, 5, x.step);
+    put_mark(out, behind, mark)
+}
+
+// Writes a mark, and answers the place behind it: 0 as asked, 1 held at the top, 2 held at zero.
+pub fn put_mark(out: &mut [u8], at: usize, mark: Mark) -> usize {
+    match mark {
+        Mark::AsAsked => judge_wire::put_byte(out, at, 0),
+        Mark::HeldAtTop => judge_wire::put_byte(out, at, 1),
+        Mark::HeldAtZero => judge_wire::put_byte(out, at, 2),
     }
 }
 

@@ -3,6 +3,8 @@
 mod converted;
 mod leaves;
 
+pub use converted::put_mark;
+
 // The length of a call of the entry; 0 for no entry of these groups.
 pub fn length(entry: u8) -> usize {
     if entry < 0x20 {

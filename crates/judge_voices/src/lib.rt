@@ -4,6 +4,7 @@
 ghost use Prim.Native.Nat.{_≤_};
 use algorithms::Plan;
 use dx_units_inner::Ratio;
+use dx_units_step::Marked;
 use envelope_inner::Envelope;
 use operator::Feedback;
 use operator::Operator;
@@ -240,20 +241,32 @@ fn render_block(
     out: &mut [u8],
 ) -> usize {
     fill(entry, s, block);
-    let number = render_register(entry, s, registers, block);
-    put_rendered(entry, out, number, block, held(registers))
+    let told = render_register(entry, s, registers, block);
+    put_rendered(entry, out, told, block, held(registers))
 }
 
-// Renders a block with the stored voice, keeps what becomes of it, and answers the number.
-fn render_register(entry: u8, s: &[u8], registers: &mut [u8], block: &mut [f32]) -> u8 {
+// What a block says besides its samples and the voice.
+struct Told {
+    number: u8,
+    marks: [Marked; 6],
+}
+
+// Renders a block with the stored voice, keeps what becomes of it, and answers the rest.
+fn render_register(entry: u8, s: &[u8], registers: &mut [u8], block: &mut [f32]) -> Told {
     let done = rendered(entry, voice(held(registers)), parameters(s), block);
     let v = done.voice;
     keep(registers, v);
-    done.number
+    let marks = done.marks;
+    Told {
+        number: done.number,
+        marks,
+    }
 }
 
-fn put_rendered(entry: u8, out: &mut [u8], number: u8, block: &[f32], voice: &[u8]) -> usize {
-    let a = judge_wire::put_byte(out, 5, number);
+fn put_rendered(entry: u8, out: &mut [u8], told: Told, block: &[f32], voice: &[u8]) -> usize {
+    let marks = told.marks;
+    let number = judge_wire::put_byte(out, 5, told.number);
+    let a = put_marks(out, number, marks);
     if entry == 0x89 {
         return judge_wire::put_number(out, a, digest(block, voice), 8);
     }
@@ -550,6 +563,19 @@ fn put_ratios(out: &mut [u8], at: usize, ratios: [Tuned; 6]) -> usize {
         place = put_tuned(out, place, ratios[i]);
     }
     place
+}
+
+fn put_marks(out: &mut [u8], at: usize, marks: [Marked; 6]) -> usize {
+    let mut place = at;
+    for i in 0..6 {
+        place = put_marked(out, place, marks[i]);
+    }
+    place
+}
+
+fn put_marked(out: &mut [u8], at: usize, m: Marked) -> usize {
+    let mark = m.mark;
+    judge_units::put_mark(out, at, mark)
 }
 
 fn put_tuned(out: &mut [u8], at: usize, t: Tuned) -> usize {

@@ -350,12 +350,12 @@ module _ {M : Type 1} (𝓤 : URA M) (H : Heap 𝓤) (A : Atoms 𝓤) (mem : Mem
   -- a block: the answer, and the whole block
   pub voice-render-settled : Settled 𝓤 voice-render.ended (voice-render.clauses 𝓤 H A mem run)
   voice-render-settled κs a g z y ws vs = both 𝓤 _ _ _ (λ p q. let e = p ∙ sym q in (
-    ap (λ (x : Answered). record { number = x .number; voice = x .voice }) e,
+    ap (λ (x : Answered). record { number = x .number; marks = x .marks; voice = x .voice }) e,
     ap (λ (x : Answered). (tt, (tt, (x .block, tt)))) e,
   ))
 
   pub voice-render-with-settled : Settled 𝓤 voice-render-with.ended (voice-render-with.clauses 𝓤 H A mem run)
   voice-render-with-settled κs a g z y ws vs = both 𝓤 _ _ _ (λ p q. let e = p ∙ sym q in (
-    ap (λ (x : Answered). record { number = x .number; voice = x .voice }) e,
+    ap (λ (x : Answered). record { number = x .number; marks = x .marks; voice = x .voice }) e,
     ap (λ (x : Answered). (tt, (tt, (tt, (tt, (tt, (x .block, tt))))))) e,
   ))

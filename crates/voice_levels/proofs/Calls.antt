@@ -7,7 +7,8 @@ use native.Mathlib.Numerals.{add-one}
 use lib.ListN.{getD, set}
 use lib.Ieee.{Float, nan}
 use Rattle.numbers.specs.F32.{_⊕_, _⊗_}
-use Rattle.dx_units_step.specs.Step.{stepFor}
+use Rattle.dx_units_step.specs.declared.Stepped.{Stepped}
+use Rattle.dx_units_step.specs.Step.{steppedFor}
 use Rattle.dx_units_inner.specs.Units.{rateScaling}
 use Rattle.envelope_inner.specs.declared.Envelope.{Envelope}
 use Rattle.envelope_inner.specs.Envelope.{movedTo}
@@ -24,26 +25,26 @@ use Rattle.voice_levels.specs.declared.Levels.{Levels}
 use Rattle.voice_levels.specs.Levels.{followed, taken, frequencyOf, scalingOf, amplitudeOf, putAt, noTuned}
 use Rattle.voice_levels.specs.Levels.{raised, raisedBy, raisedTo, amplitudesTo}
 
-pub raised-of : (g : Scene) (o : Operator) (tuned : Tuned) (headroom : Float) (opcode : ℕ) (e : Envelope) {hz scale s : Float} {step : ℕ} {p : Placed}
+pub raised-of : (g : Scene) (o : Operator) (tuned : Tuned) (headroom : Float) (opcode : ℕ) (e : Envelope) {hz scale s : Float} {t : Stepped} {p : Placed}
     → hz ≡ frequencyOf g tuned
-    → step ≡ stepFor hz
+    → t ≡ steppedFor hz
     → scale ≡ rateScaling (g .note) (o .«rate_scaling»)
     → taken e p ≡ followed (g .timing) true (g .timing .«envelope_rate» ⊗ scale) e
     → s ≡ scalingOf g o headroom opcode
-    → raisedBy e (record { stage = p .stage; phase = p .phase; start = p .start; step = step; level = p .value ⊕ s }) ≡ raised g o tuned headroom opcode e
+    → raisedBy e (record { stage = p .stage; phase = p .phase; start = p .start; step = t .step; mark = t .mark; level = p .value ⊕ s }) ≡ raised g o tuned headroom opcode e
 unfolding raised
-raised-of g o tuned headroom opcode e {s = s} {step = step} eh et ec ep es =
+raised-of g o tuned headroom opcode e {s = s} {t = t} eh et ec ep es =
     ap (λ (f : Followed). raised-by f) ep ∙ rw (et, eh, es, ec)
   where
     raised-by : Followed → Leveled
-    raised-by f = record { envelope = f .envelope; step = step; amplitude = f .value ⊕ s }
+    raised-by f = record { envelope = f .envelope; step = t .step; mark = t .mark; amplitude = f .value ⊕ s }
 
 -- one operator more
 pub raised-next : (g : Scene) (ops : List Operator) (ratios : List Tuned) (headrooms : List Float) (row : List ℕ) (es : List Envelope) (k : ℕ) {l : Levels} {r : Raised} {e : Envelope}
     → l ≡ raisedTo g ops ratios headrooms row es k
     → raisedBy (envelopeAt es k) r ≡ raised g (operatorAt ops k) (getD ratios k noTuned) (getD headrooms k nan) (getD row k 0) (envelopeAt es k)
     → e ≡ movedTo (envelopeAt es k) (r .stage) (r .phase) (r .start)
-    → putAt k (record { envelope = e; step = r .step; amplitude = r .level }) l ≡ raisedTo g ops ratios headrooms row es (k + 1)
+    → putAt k (record { envelope = e; step = r .step; mark = r .mark; amplitude = r .level }) l ≡ raisedTo g ops ratios headrooms row es (k + 1)
 unfolding raisedTo
 raised-next g ops ratios headrooms row es k el er ee = rw (add-one k, el, ee, ← er)
 

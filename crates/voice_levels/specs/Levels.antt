@@ -10,7 +10,10 @@ use Rattle.numbers.specs.F32.{_⊕_, _⊖_, _⊗_, decimal, minusDecimal, asFlo
 use Rattle.numbers.specs.Extremes.{minimum, magnitude}
 use Rattle.units.specs.Ratio.{ratioOf}
 use Rattle.dx_units_power.specs.Pow.{pow2Fast}
-use Rattle.dx_units_step.specs.Step.{stepFor}
+use Rattle.dx_units_step.specs.declared.Mark.{Mark}
+use Rattle.dx_units_step.specs.declared.Mark.the-variants.{AsAsked}
+use Rattle.dx_units_step.specs.declared.Marked.{Marked}
+use Rattle.dx_units_step.specs.Step.{stepFor, markFor}
 use Rattle.dx_units_inner.specs.Units.{rateScaling, keyboardScaling, ampModSensitivity}
 use Rattle.dx_units_inner.specs.declared.Ratio.{Ratio}
 use Rattle.dx_units_inner.specs.declared.Ratio.the-variants.{Note, Hertz}
@@ -105,6 +108,7 @@ amplitudeOf ampMod sensitivity level =
 pub record Leveled : Type 0 where
   pub envelope : Envelope
   pub step : ℕ
+  pub mark : Mark
   pub amplitude : Float
 
 unfoldable pub leveled : Scene → Operator → Tuned → Float → ℕ → Envelope → Leveled
@@ -114,14 +118,24 @@ leveled g o tuned headroom opcode e =
     record {
       envelope = f .envelope;
       step = stepFor (frequencyOf g tuned);
+      mark = markFor (frequencyOf g tuned);
       amplitude = amplitudeOf (g .«amp_mod») (o .«amp_mod_sensitivity») (f .value ⊕ scalingOf g o headroom opcode);
     }
+
+-- a mark as an element of an array
+abbrev pub marked : Mark → Marked
+marked m = record { mark = m }
+
+-- the marks of six operators whose pitches are all as asked
+unfoldable pub allAsAsked : List Marked
+allAsAsked = replicate 6 (marked AsAsked)
 
 -- operator i put in its place
 unfoldable pub putAt : ℕ → Leveled → Levels → Levels
 putAt i one l = record {
   «operator_envelope» = set (l .«operator_envelope») i (one .envelope);
   steps = set (l .steps) i (one .step);
+  marks = set (l .marks) i (marked (one .mark));
   amplitudes = set (l .amplitudes) i (one .amplitude);
 }
 
@@ -129,12 +143,21 @@ putAt i one l = record {
 abbrev pub noTuned : Tuned
 noTuned = record { ratio = Note nan }
 
--- the first operators, in order; the others keep their envelopes, and their steps and amplitudes are 0
+-- no operator yet: envelopes as they are, steps and amplitudes 0, pitches as asked
+abbrev pub unleveled : List Envelope → Levels
+unleveled es = record {
+  «operator_envelope» = es;
+  steps = replicate 6 0;
+  marks = allAsAsked;
+  amplitudes = replicate 6 (decimal 0 0);
+}
+
+-- the first operators, in order
 module _
     (g : Scene) (ops : List Operator) (ratios : List Tuned) (headrooms : List Float) (row : List ℕ) (es : List Envelope)
   where
     unfoldable pub leveledTo : ℕ → Levels
-    leveledTo zero = record { «operator_envelope» = es; steps = replicate 6 0; amplitudes = replicate 6 (decimal 0 0) }
+    leveledTo zero = unleveled es
     leveledTo (suc k) =
         let one =
         leveled g (operatorAt ops k) (getD ratios k noTuned) (getD headrooms k nan) (getD row k 0) (envelopeAt es k)
@@ -143,7 +166,7 @@ module _
 
 -- ---- the same in two steps
 
--- first an operator's envelope, its step, and its level in the amplitude's place
+-- first an operator's envelope, its step and its mark, and its level in the amplitude's place
 unfoldable pub raised : Scene → Operator → Tuned → Float → ℕ → Envelope → Leveled
 raised g o tuned headroom opcode e =
     let rate = g .timing .«envelope_rate» ⊗ rateScaling (g .note) (o .«rate_scaling») in
@@ -151,18 +174,24 @@ raised g o tuned headroom opcode e =
     record {
       envelope = f .envelope;
       step = stepFor (frequencyOf g tuned);
+      mark = markFor (frequencyOf g tuned);
       amplitude = f .value ⊕ scalingOf g o headroom opcode;
     }
 
 -- an envelope taken to where it stands then
 abbrev pub raisedBy : Envelope → Raised → Leveled
-raisedBy e r = record { envelope = movedTo e (r .stage) (r .phase) (r .start); step = r .step; amplitude = r .level }
+raisedBy e r = record {
+  envelope = movedTo e (r .stage) (r .phase) (r .start);
+  step = r .step;
+  mark = r .mark;
+  amplitude = r .level;
+}
 
 module _
     (g : Scene) (ops : List Operator) (ratios : List Tuned) (headrooms : List Float) (row : List ℕ) (es : List Envelope)
   where
     unfoldable pub raisedTo : ℕ → Levels
-    raisedTo zero = record { «operator_envelope» = es; steps = replicate 6 0; amplitudes = replicate 6 (decimal 0 0) }
+    raisedTo zero = unleveled es
     raisedTo (suc k) =
         let one =
         raised g (operatorAt ops k) (getD ratios k noTuned) (getD headrooms k nan) (getD row k 0) (envelopeAt es k)

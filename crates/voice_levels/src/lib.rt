@@ -1,5 +1,5 @@
 // The numbers of a sounding block, after voice.rs's render: how fast the envelopes run, and for each operator its
-// envelope, its step and its amplitude. Helpers of the voice, which has checked its state and the patch.
+// envelope, its step with its mark, and its amplitude. Helpers of the voice, which has checked its state and the patch.
 ghost use mathlib.Core.Path.{_≡_};
 ghost use Prim.Native.Nat.{_≤_};
 ghost use lib.Dec.{T};
@@ -8,8 +8,10 @@ ghost use Rattle.patch.specs.Packed.{operatorsFit};
 ghost use Rattle.voice_levels.specs.Levels.{timingFor, followed, noteFrequency, frequencyOf, scalingOf};
 ghost use Rattle.voice_levels.specs.Levels.{levelModOf, amplitudeOf};
 ghost use Rattle.voice_levels.specs.Levels.{brightnessOf, taken, raised, raisedTo, raisedBy, amplitudesTo};
-ghost use Rattle.voice_levels.specs.Levels.{leveledTo};
+ghost use Rattle.voice_levels.specs.Levels.{allAsAsked, leveledTo};
 use dx_units_inner::Ratio;
+use dx_units_step::Mark;
+use dx_units_step::Marked;
 use envelope_inner::Envelope;
 use voice_setup::Tuned;
 
@@ -58,13 +60,15 @@ pub struct Raised {
     pub phase: f32,
     pub start: f32,
     pub step: u32,
+    pub mark: Mark,
     pub level: f32,
 }
 
-// All operators of a block: envelopes, steps and amplitudes.
+// All operators of a block: envelopes, steps with their marks, and amplitudes.
 pub struct Levels {
     pub operator_envelope: [Envelope; 6],
     pub steps: [u32; 6],
+    pub marks: [Marked; 6],
     pub amplitudes: [f32; 6],
 }
 
@@ -212,7 +216,17 @@ fn amplitude(amp_mod: f32, sensitivity: u8, level: f32) -> f32
     dx_units_power::pow_2_fast(-14.0 + level * level_mod(log_level_mod), 2)
 }
 
-// An operator's envelope, step and level.
+// The marks of six operators whose pitches are all as asked.
+pub fn all_as_asked() -> [Marked; 6]
+    ensures { λ r. ⌜ r ≡ allAsAsked ⌝ }
+{
+    let m = Marked {
+        mark: Mark::AsAsked,
+    };
+    [m, m, m, m, m, m]
+}
+
+// An operator's envelope, step with its mark, and level.
 fn raise_operator(
     g: Scene,
     op: patch::Operator,
@@ -224,7 +238,8 @@ fn raise_operator(
     requires { ⌜ e .stage ≤ 3 ⌝ }
     ensures { λ r. ⌜ raisedBy e r ≡ raised g op tuned «level_headroom» opcode e ⌝ }
 {
-    let step = dx_units_step::frequency_step(frequency(g, tuned));
+    let s = dx_units_step::frequency_step(frequency(g, tuned));
+    let mark = s.mark;
     let t = g.timing;
     let rate = t.envelope_rate * dx_units_inner::rate_scaling(g.note, op.rate_scaling);
     let p = place(t, true, rate, e);
@@ -233,12 +248,13 @@ fn raise_operator(
         stage: p.stage,
         phase: p.phase,
         start: p.start,
-        step,
+        step: s.step,
+        mark,
         level,
     }
 }
 
-// The first operators' envelopes and steps, and in the amplitudes' place their levels.
+// The first operators' envelopes, steps and marks, and in the amplitudes' place their levels.
 fn raise_operators(
     operator_envelope: [Envelope; 6],
     row: [u8; 6],
@@ -251,9 +267,11 @@ fn raise_operators(
     requires { ⌜ (operators ≤ 6) × T (allStages «operator_envelope») ⌝ }
     ensures { λ r. ⌜ r ≡ raisedTo g op ratios «level_headroom» row «operator_envelope» operators ⌝ }
 {
+    let marks = all_as_asked();
     let mut l = Levels {
         operator_envelope,
         steps: [0u32; 6],
+        marks,
         amplitudes: [0.0f32; 6],
     };
     let mut i = 0usize;
@@ -263,8 +281,11 @@ fn raise_operators(
         let e = operator_envelope[i];
         let one = raise_operator(g, o, tuned, level_headroom[i], row[i], e);
         let envelope = envelope_inner::move_to(e, one.stage, one.phase, one.start);
+        let mark = one.mark;
+        let marked = Marked { mark };
         l.operator_envelope[i] = envelope;
         l.steps[i] = one.step;
+        l.marks[i] = marked;
         l.amplitudes[i] = one.level;
         i = i + 1;
     }
@@ -286,8 +307,8 @@ fn amplitudes_of(g: Scene, operators: usize, op: [patch::Operator; 6], levels: [
     l
 }
 
-// The first `operators` of six; the others keep their envelopes, and their steps and amplitudes are 0. Two loops, so
-// that the processor overlaps the operators in each.
+// The first `operators` of six; the others keep their envelopes, their steps and amplitudes are 0, and their marks say as
+// asked. Two loops, so that the processor overlaps the operators in each.
 pub fn level_operators(
     g: Scene,
     operators: usize,

@@ -8,22 +8,27 @@ use lib.Dec.{T}
 use lib.ListN.{length, take}
 use lib.Ieee.{Float}
 use Rattle.algorithms.proofs.Accepted.{SafePlan, planned-safe}
+use Rattle.dx_units_step.specs.declared.Marked.{Marked}
 use Rattle.voice_block.specs.declared.Operators.{Operators}
 use Rattle.voice_block.proofs.Same.{same-sound}
 use Rattle.voice_block.proofs.Lengths.{ran-length}
+use Rattle.voice_levels.specs.Levels.{allAsAsked}
 use Rattle.voice.specs.declared.Voice.{Voice}
 use Rattle.voice.specs.Answers.{stateFits}
 use Rattle.voice.proofs.States.{stored, clean-has}
 use Rattle.voice_render.specs.declared.VoiceParameters.{VoiceParameters}
 use Rattle.voice_render.specs.Setup.{setUp}
-use Rattle.voice_render.specs.Block.{begun, entering, after, levelsFor, played, sounded}
+use Rattle.voice_render.specs.Block.{begun, entering, after, levelsFor, marksFor, played, sounded}
 use Rattle.voice_render.specs.Answers.{blockFits, parametersFit, Answered, unsounded, sounding, renderAnswer}
 use Rattle.voice_render.specs.Heard.{output, heardOf}
 use Rattle.voice_render.proofs.Blocks.{block-whole}
 
-same-answer : (number : ℕ) {v w : Voice} {one other : List Float} → v ≡ w → one ≡ other
-    → unsounded number v one ≡ unsounded number w other
-same-answer number e f = rw (e, f)
+abbrev answer : ℕ → List Marked → Voice → List Float → Answered
+answer number marks v block = record { number = number; marks = marks; voice = v; block = block }
+
+same-answer : (number : ℕ) (marks : List Marked) {v w : Voice} {one other : List Float} → v ≡ w → one ≡ other
+    → answer number marks v one ≡ answer number marks w other
+same-answer number marks e f = rw (e, f)
 
 -- an accepted block's output is its first quarter
 output-fits : (n : ℕ) (block : List Float) → length block ≡ n → blockFits n ≡ true
@@ -86,7 +91,7 @@ module _ (pairs high low : List Float) (v : Voice) (p : VoiceParameters) (one ot
       whole in
       let long' = ran-length pairs (v .plan) (levels .steps) (levels .amplitudes) (v .patch .feedback) before other
       (rw (← l) whole) in
-      rw (← l) (same-answer 0 (ap (after v p (begun high low v p (n / 4)) levels) (same .0))
+      rw (← l) (same-answer 0 (marksFor pairs high low v p (n / 4)) (ap (after v p (begun high low v p (n / 4)) levels) (same .0))
       (output-fits n _ long size ∙ same .1 ∙ sym (output-fits n _ (long' ∙ sym l) size)))
 
   -- any block: refused or blank, it stays as it was
@@ -97,8 +102,8 @@ module _ (pairs high low : List Float) (v : Voice) (p : VoiceParameters) (one ot
       go : (state size fit dirty : Bool) → stateFits v ≡ state → blockFits (length one) ≡ size → v .dirty ≡ dirty
           → heardOf (answerBy pairs high low v p one state size fit dirty)
           ≡ heardOf (answerBy pairs high low v p other state size fit dirty)
-      go true true true true f s d = same-answer 0 refl o
+      go true true true true f s d = same-answer 0 allAsAsked refl o
       go true true true false f s d = sounded-alike f s d
-      go true true false dirty f s d = same-answer 7 refl o
-      go true false fit dirty f s d = same-answer 8 refl o
-      go false size fit dirty f s d = same-answer 9 refl o
+      go true true false dirty f s d = same-answer 7 allAsAsked refl o
+      go true false fit dirty f s d = same-answer 8 allAsAsked refl o
+      go false size fit dirty f s d = same-answer 9 allAsAsked refl o

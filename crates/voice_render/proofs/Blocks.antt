@@ -20,6 +20,7 @@ use Rattle.patch_limits.proofs.Within.{patch-fits}
 use Rattle.algorithms.specs.Plan.{counted}
 use Rattle.envelope_inner.specs.declared.Envelope.{Envelope}
 use Rattle.envelope_inner.specs.Set.{pitchSet}
+use Rattle.dx_units_step.specs.declared.Marked.{Marked}
 use Rattle.operator.specs.declared.Operator.{Operator}
 use Rattle.voice_block.specs.declared.Operators.{Operators}
 use Rattle.voice_block.specs.Calls.{ran}
@@ -28,7 +29,7 @@ use Rattle.voice_setup.specs.Setup.{setUpTo}
 use Rattle.voice_levels.specs.declared.Timing.{Timing}
 use Rattle.voice_levels.specs.declared.Followed.{Followed}
 use Rattle.voice_levels.specs.declared.Levels.{Levels}
-use Rattle.voice_levels.specs.Levels.{timingFor, followed, noteFrequency, leveledTo}
+use Rattle.voice_levels.specs.Levels.{timingFor, followed, noteFrequency, allAsAsked, leveledTo}
 use Rattle.voice.specs.declared.Voice.{Voice}
 use Rattle.voice.specs.Answers.{stateFits}
 use Rattle.voice_render.specs.declared.VoiceParameters.{VoiceParameters}
@@ -36,7 +37,7 @@ use Rattle.voice_render.specs.declared.Struck.{Struck}
 use Rattle.voice_render.specs.declared.Begun.{Begun}
 use Rattle.voice_render.specs.declared.Readied.{Readied}
 use Rattle.voice_render.specs.Setup.{withSetup, setUp}
-use Rattle.voice_render.specs.Block.{noteOn, struck, begun, restartedAt, allRestarted, entering, levelsFor, after, played, sounded}
+use Rattle.voice_render.specs.Block.{noteOn, struck, begun, restartedAt, allRestarted, entering, levelsFor, marksFor, after, played, sounded}
 use Rattle.voice_render.specs.Answers.{blockFits, parametersFit, Answered, unsounded, sounding, renderAnswer}
 use Rattle.voice_render.specs.Answers.{readied, setupAnswer}
 
@@ -169,19 +170,25 @@ module _ (high low : List Float) (v : Voice) (p : VoiceParameters) (n : ℕ) whe
   begun-of et ef ex es = rw (ex, es, ef, et) refl
 
 module _ (pairs high low : List Float) (v : Voice) (p : VoiceParameters) (block : List Float) where
-  pub sounded-of : {b : Begun} {l : Levels} {os : List Operator} {r : Operators} {out : List Float} {w : Voice}
+  pub sounded-of : {b : Begun} {l : Levels} {os : List Operator} {r : Operators} {marks : List Marked} {out : List Float} {w : Voice}
       → b ≡ begun high low v p (length block / 4)
       → l ≡ leveledTo (b .scene) (v .patch .op) (v .ratios) (v .«level_headroom») (v .row) (v .«operator_envelope») (v .operators)
       → os ≡ entering v p
       → record { operators = r; block = out } ≡ ran pairs (v .plan) (l .steps) (l .amplitudes) (v .patch .feedback) (record { operator = os; «feedback_state» = v .«feedback_state» }) block
+      → marks ≡ cond (eqb (length block / 4) 0) allAsAsked (l .marks)
       → w ≡ after v p b l r
-      → record { voice = w; block = out } ≡ sounded pairs high low v p block
-  unfolding sounded played levelsFor
-  sounded-of eb el eo er ew =
+      → record { number = 0; marks = marks; voice = w; block = out } ≡ sounding (sounded pairs high low v p block)
+  unfolding sounded played levelsFor marksFor
+  sounded-of eb el eo er em ew =
       let here = rw (el, eo, eb) at er in
-      rw (ew, el, eb, sym here) refl
+      rw (ew, em, el, eb, sym here) refl
 
 -- ---- the block's answer
+
+-- one that does not sound, by the marks that were made for it
+pub not-sounded : {number : ℕ} {marks : List Marked} {v : Voice} {block : List Float} {a : Answered} → marks ≡ allAsAsked
+    → unsounded number v block ≡ a → record { number = number; marks = marks; voice = v; block = block } ≡ a
+not-sounded em e = rw em e
 
 module _ (pairs high low : List Float) (v : Voice) (p : VoiceParameters) (block : List Float) where
   pub render-9 : stateFits v ≡ false → unsounded 9 v block ≡ renderAnswer pairs high low v p block
@@ -206,10 +213,10 @@ module _ (pairs high low : List Float) (v : Voice) (p : VoiceParameters) (block 
         unfolding renderAnswer either
         render-blank h e = rw (state, size, fits, e) (sym (ap either h))
 
-        pub render-sound : v .dirty ≡ false → {w : Voice} {out : List Float} → record { voice = w; block = out } ≡ sounded pairs high low v p block
-            → unsounded 0 w out ≡ renderAnswer pairs high low v p block
+        pub render-sound : v .dirty ≡ false → {a : Answered} → a ≡ sounding (sounded pairs high low v p block)
+            → a ≡ renderAnswer pairs high low v p block
         unfolding renderAnswer either
-        render-sound h e = rw (state, size, fits) (ap sounding e ∙ sym (ap either h))
+        render-sound h e = rw (state, size, fits) (e ∙ sym (ap either h))
 
 -- with the tables made for one block
 pub with-tables : (v : Voice) (p : VoiceParameters) (block : List Float) {a : Answered} {pairs high low : List Float}

@@ -8,10 +8,13 @@ use lib.ListN.{length}
 use lib.Ieee.{Float}
 use Rattle.numbers.specs.F32.{decimal, minusDecimal}
 use Rattle.patch_limits.specs.Ranges.{between, noteFits, unitFits}
+use Rattle.dx_units_step.specs.declared.Marked.{Marked}
+use Rattle.voice_levels.specs.Levels.{allAsAsked}
 use Rattle.voice.specs.declared.Voice.{Voice}
 use Rattle.voice.specs.Answers.{stateFits}
 use Rattle.voice_render.specs.declared.VoiceParameters.{VoiceParameters}
 use Rattle.voice_render.specs.declared.Readied.{Readied}
+use Rattle.voice_render.specs.declared.Rendered.{Rendered}
 use Rattle.voice_render.specs.Setup.{setUp}
 use Rattle.voice_render.specs.Block.{Sounded, sounded}
 
@@ -41,17 +44,23 @@ unfoldable pub setupAnswer : List Float → List Float → Voice → Readied
 setupAnswer high low v =
     cond (stateFits v) (cond (v .dirty) (readied 0 true (setUp high low v)) (readied 0 false v)) (readied 9 false v)
 
--- the number, the voice and the whole block after it
+-- the number, a mark for each operator, the voice and the whole block after it
 pub record Answered : Type 0 where
   pub number : ℕ
+  pub marks : List Marked
   pub voice : Voice
   pub block : List Float
 
+-- what a call gave, with the block after it
+abbrev pub answeredBy : Rendered → List Float → Answered
+answeredBy r block = record { number = r .number; marks = r .marks; voice = r .voice; block = block }
+
+-- a refused or a blank block: every pitch is as asked
 abbrev pub unsounded : ℕ → Voice → List Float → Answered
-unsounded number v block = record { number = number; voice = v; block = block }
+unsounded number v block = record { number = number; marks = allAsAsked; voice = v; block = block }
 
 abbrev pub sounding : Sounded → Answered
-sounding s = record { number = 0; voice = s .voice; block = s .block }
+sounding s = record { number = 0; marks = s .marks; voice = s .voice; block = s .block }
 
 -- 9, 8, 7; a dirty voice's block is blank: it sets up, touches no buffer and does not record the gate
 unfoldable pub renderAnswer : List Float → List Float → List Float → Voice → VoiceParameters → List Float → Answered

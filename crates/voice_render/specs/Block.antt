@@ -8,11 +8,12 @@ use lib.ListN.{length, getD}
 use lib.Ieee.{Float}
 use Rattle.numbers.specs.F32.{_⊕_}
 use Rattle.dx_units_inner.specs.Units.{normalizedVelocity}
+use Rattle.dx_units_step.specs.declared.Marked.{Marked}
 use Rattle.operator.specs.declared.Operator.{Operator}
 use Rattle.voice_block.specs.declared.Operators.{Operators}
 use Rattle.voice_block.specs.Calls.{noOperator, Ran, ran}
 use Rattle.voice_levels.specs.declared.Levels.{Levels}
-use Rattle.voice_levels.specs.Levels.{timingFor, followed, noteFrequency, leveledTo}
+use Rattle.voice_levels.specs.Levels.{timingFor, followed, noteFrequency, allAsAsked, leveledTo}
 use Rattle.voice.specs.declared.Voice.{Voice}
 use Rattle.voice.specs.Voice.{Moving, tuningsOf, contentsOf, rebuilt}
 use Rattle.voice_render.specs.declared.VoiceParameters.{VoiceParameters}
@@ -81,17 +82,22 @@ after v p b l os =
     in
     rebuilt v m (tuningsOf v) (contentsOf v) (v .dirty)
 
--- the voice and all four quarters after a sounding block
+-- the voice, a mark for each operator and all four quarters after a sounding block
 pub record Sounded : Type 0 where
   pub voice : Voice
+  pub marks : List Marked
   pub block : List Float
 
 module _ (pairs high low : List Float) (v : Voice) (p : VoiceParameters) where
-  -- steps and amplitudes in a block of n samples
+  -- steps, marks and amplitudes in a block of n samples
   unfoldable pub levelsFor : ℕ → Levels
   levelsFor n =
       leveledTo (begun high low v p n .scene) (v .patch .op) (v .ratios) (v .«level_headroom») (v .row)
       (v .«operator_envelope») (v .operators)
+
+  -- the marks that it tells: no pitch of an empty block is cut off
+  unfoldable pub marksFor : ℕ → List Marked
+  marksFor n = cond (eqb n 0) allAsAsked (levelsFor n .marks)
 
   -- the plan's calls over the block
   unfoldable pub played : List Float → Ran
@@ -104,4 +110,8 @@ module _ (pairs high low : List Float) (v : Voice) (p : VoiceParameters) where
   sounded block =
       let n = length block / 4 in
       let r = played block in
-      record { voice = after v p (begun high low v p n) (levelsFor n) (r .operators); block = r .block }
+      record {
+        voice = after v p (begun high low v p n) (levelsFor n) (r .operators);
+        marks = marksFor n;
+        block = r .block;
+      }

@@ -12,4 +12,4 @@ output block = cond (blockFits (length block)) (take (length block / 4) block) [
 
 -- a block's answer without the scratch
 abbrev pub heardOf : Answered → Answered
-heardOf a = record { number = a .number; voice = a .voice; block = output (a .block) }
+heardOf a = record { number = a .number; marks = a .marks; voice = a .voice; block = output (a .block) }

@@ -1,17 +1,21 @@
 // A block of a DX7 voice, after voice.rs's setup and render: the voice goes in and comes back by value. A block refuses
 // in document 01's order (9, 8, 7), a setup 9, and the promise names the answer and the whole block for every input: a
-// refusal hands back the voice as it came and touches no buffer.
+// refusal hands back the voice as it came and touches no buffer. A sounding block marks each operator whose pitch was
+// cut off.
 ghost use mathlib.Core.Path.{_≡_};
-ghost use mathlib.Core.Bool.{false};
+ghost use mathlib.Core.Bool.{false, cond};
 ghost use Prim.Native.Nat.{_≤_};
-ghost use lib.Dec.{T};
+ghost use lib.Dec.{T, eqb};
 ghost use lib.ListN.{length};
 ghost use Rattle.sine.specs.Pairs.{sinePairs};
 ghost use Rattle.units.specs.Tables.{lutPitchRatioHigh, lutPitchRatioLow};
+ghost use Rattle.voice_levels.specs.Levels.{allAsAsked};
 ghost use Rattle.voice.specs.Answers.{stateFits};
 ghost use Rattle.voice_render.specs.Setup.{withSetup, setUp};
 ghost use Rattle.voice_render.specs.Block.{noteOn, struck, begun, restarted, entering, after, sounded};
-ghost use Rattle.voice_render.specs.Answers.{blockFits, parametersFit, renderAnswer, setupAnswer};
+ghost use Rattle.voice_render.specs.Answers.{blockFits, parametersFit, setupAnswer};
+ghost use Rattle.voice_render.specs.Answers.{answeredBy, sounding, renderAnswer};
+use dx_units_step::Marked;
 use envelope_inner::Envelope;
 use operator::Operator;
 use voice::Voice;
@@ -31,9 +35,11 @@ pub struct VoiceParameters {
     pub amp_mod: f32,
 }
 
-// What a block gives besides its samples.
+// What a block gives besides its samples. The marks tell of each operator whether its pitch was cut off: they are all as
+// asked where the block is refused, blank or empty.
 pub struct Rendered {
     pub number: u8,
+    pub marks: [Marked; 6],
     pub voice: Voice,
 }
 
@@ -240,6 +246,16 @@ fn leave(v: Voice, p: VoiceParameters, b: Begun, l: Levels, os: Operators) -> Vo
     w
 }
 
+// The marks that a block of n samples tells: no pitch of an empty one is cut off.
+fn told(n: usize, marks: [Marked; 6]) -> [Marked; 6]
+    ensures { λ r. ⌜ r ≡ cond (eqb n 0) allAsAsked marks ⌝ }
+{
+    if n == 0 {
+        return voice_levels::all_as_asked();
+    }
+    marks
+}
+
 // A sounding block: envelopes, frequencies and amplitudes first, then the plan's calls.
 fn render_sounding(
     v: Voice,
@@ -248,10 +264,10 @@ fn render_sounding(
     high: &[f32; 256],
     low: &[f32; 256],
     block: &mut [f32],
-) -> Voice
+) -> Rendered
     requires { ⌜ T (stateFits v) × (v .dirty ≡ false) × T (blockFits (length (now block))) ⌝ }
-    ensures { λ r. ⌜ record { voice = r; block = now (block .exit) }
-        ≡ sounded (now (pairs .entry)) (now (high .entry)) (now (low .entry)) v p (now (block .entry)) ⌝ }
+    ensures { λ r. ⌜ answeredBy r (now (block .exit))
+        ≡ sounding (sounded (now (pairs .entry)) (now (high .entry)) (now (low .entry)) v p (now (block .entry))) ⌝ }
 {
     let n = block.len() / 4;
     let b = begin(high, low, v, p, n as u32);
@@ -281,7 +297,13 @@ fn render_sounding(
         patch.feedback,
         block,
     );
-    leave(v, p, b, l, os)
+    let cut = l.marks;
+    let marks = told(n, cut);
+    Rendered {
+        number: 0,
+        marks,
+        voice: leave(v, p, b, l, os),
+    }
 }
 
 // A block, with the tables lent. A dirty voice's is blank: it sets up and touches no buffer. The old hardware had no
@@ -295,42 +317,44 @@ pub fn render_with(
     p: VoiceParameters,
     block: &mut [f32],
 ) -> Rendered
-    ensures { λ r. ⌜ record { number = r .number; voice = r .voice; block = now (block .exit) }
+    ensures { λ r. ⌜ answeredBy r (now (block .exit))
         ≡ renderAnswer (now (pairs .entry)) (now (high .entry)) (now (low .entry)) v p (now (block .entry)) ⌝ }
 {
+    let marks = voice_levels::all_as_asked();
     if !voice::state_fits(v) {
         return Rendered {
             number: 9,
+            marks,
             voice: v,
         };
     }
     if !block_fits(block.len()) {
         return Rendered {
             number: 8,
+            marks,
             voice: v,
         };
     }
     if !parameters_fit(p) {
         return Rendered {
             number: 7,
+            marks,
             voice: v,
         };
     }
     if v.dirty {
         return Rendered {
             number: 0,
+            marks,
             voice: set_up(high, low, v),
         };
     }
-    Rendered {
-        number: 0,
-        voice: render_sounding(v, p, pairs, high, low, block),
-    }
+    render_sounding(v, p, pairs, high, low, block)
 }
 
 // A block: the output and scratch 1 to 3, a quarter each.
 pub fn render(v: Voice, p: VoiceParameters, block: &mut [f32]) -> Rendered
-    ensures { λ r. ⌜ record { number = r .number; voice = r .voice; block = now (block .exit) }
+    ensures { λ r. ⌜ answeredBy r (now (block .exit))
         ≡ renderAnswer sinePairs lutPitchRatioHigh lutPitchRatioLow v p (now (block .entry)) ⌝ }
 {
     let pairs = sine::sine_pairs();

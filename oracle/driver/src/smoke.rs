@@ -1,7 +1,7 @@
 //! A quick look, after each assembly: the table of entries is sound, and the Rust is all there and reachable.
 
 use crate::entry::registers::Registers;
-use crate::entry::rust::{put_row, step, with_quarters, with_table};
+use crate::entry::rust::{mark, put_row, step, with_quarters, with_table};
 use crate::groups::{pieces, single};
 use crate::script::generate::Generator;
 use crate::table;
@@ -76,13 +76,15 @@ fn forms_fit() -> bool {
     arguments.0.is_empty() && answer.bytes == bytes && patch.op[5].detune == 126
 }
 
-/// Cases P1 to P11 of the crate `cases_proved`.
+/// Cases P1 to P11 of the crate `cases_proved`, with the marks of P8 to P11.
 fn conversions() -> bool {
     let levels = [0, 14, 15, 20, 99].map(operator_level) == [0, 38, 42, 48, 127];
     let rates = [0, 99].map(operator_envelope_increment) == [2f32.powi(-20), 0.0546875];
-    let steps = [0.5, 0.75, -0.25, f32::NAN].map(|x| step(black_box(x))) == [1 << 31, 1 << 31, 0, 1 << 31];
+    let frequencies = [0.5, 0.75, -0.25, f32::NAN];
+    let steps = frequencies.map(|x| step(black_box(x))) == [1 << 31, 1 << 31, 0, 1 << 31];
+    let marks = frequencies.map(mark) == [0, 1, 2, 1] && [0.0, -0.0, 1e-30].map(mark) == [0; 3];
     let ratio = (semitones_to_ratio_safe(black_box(240.0)) / 1_048_576.0 - 1.0).abs() < 1e-3;
-    levels && rates && steps && ratio && pow_2_fast(black_box(3.0), 2) == 8.0
+    levels && rates && steps && marks && ratio && pow_2_fast(black_box(3.0), 2) == 8.0
 }
 
 /// Within a thousandth of the power of two, from −240 to 240 in steps of a 256th.

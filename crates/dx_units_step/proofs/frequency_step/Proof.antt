@@ -12,9 +12,12 @@ f32-min-requires c κs = search needs
 f32-as-u32-requires : tie.Need-f32-as-u32-requires
 f32-as-u32-requires c κs = search needs
 
+mark-of-requires : tie.Need-mark-of-requires
+mark-of-requires c κs = search needs
+
 returns : tie.Need-returns
 unfolding stepFor decimal ofBits
-returns c = simp (c .f32-as-u32 .ensures, c .before .f32-min .ensures)
+returns c = simp (c .mark-of .ensures, c .before .f32-as-u32 .ensures, c .before .before .f32-min .ensures)
 
 pub frequency-step-spec : {M : Type 1} → statement M
-frequency-step-spec = tie.close (tie.spec f32-min-requires f32-as-u32-requires returns)
+frequency-step-spec = tie.close (tie.spec f32-min-requires f32-as-u32-requires mark-of-requires returns)

@@ -19,9 +19,12 @@ Inv-loop g operators operator-envelope row op ratios level-headroom l₀ i₀ l 
 abbrev μ-loop : tie.MeasureT-loop
 μ-loop g operators operator-envelope row op ratios level-headroom l₀ i₀ l i = operators - i
 
+all-as-asked-requires : tie.Need-all-as-asked-requires Inv-loop μ-loop
+all-as-asked-requires c κs = search needs
+
 loop-holds : tie.Need-loop-holds Inv-loop μ-loop
 unfolding raisedTo decimal ofBits
-loop-holds c = (omega arith, refl)
+loop-holds c = (omega arith, rw (c .all-as-asked .ensures) refl)
 
 mul-o : tie.Need-mul-o Inv-loop μ-loop
 mul-o c = omega arith
@@ -53,7 +56,7 @@ array-read-raise-operator-2 c = omega arith
 raise-operator-requires : tie.Need-raise-operator-requires Inv-loop μ-loop
 raise-operator-requires c κs =
     let at = c .before .before .before .before in
-    stage-at-fits (at .before .args .t1) (at .loop .i) (at .before .pre .1)
+    stage-at-fits (at .before .before .args .t1) (at .loop .i) (at .before .before .pre .1)
 
 move-to-requires : tie.Need-move-to-requires Inv-loop μ-loop
 move-to-requires c κs = search needs
@@ -69,6 +72,9 @@ mul-l c = omega arith
 
 element-write-l : tie.Need-element-write-l Inv-loop μ-loop
 element-write-l c = omega arith
+
+element-set-from-marked : tie.Need-element-set-from-marked Inv-loop μ-loop
+element-set-from-marked c = omega arith
 
 mul-l-2 : tie.Need-mul-l-2 Inv-loop μ-loop
 mul-l-2 c = omega arith
@@ -87,12 +93,12 @@ unfolding operatorAt noOperator scalingWith putAt
 loop-again c =
     let one = c .before in
     let at = one .before .before .before .before .before in
-    let a = at .before .args in
+    let a = at .before .before .args in
     (omega arith, raised-next (a .g) (a .t5) (a .t6) (a .t7) (a .t2) (a .t1) (at .loop .i) (at .loop .inv .1) (one .raise-operator .ensures) (c .move-to .ensures))
 
 returns : tie.Need-returns Inv-loop μ-loop
 returns c =
-    let all : c .before .loop .i ≡ c .before .before .args .operators = omega arith in
+    let all : c .before .loop .i ≡ c .before .before .before .args .operators = omega arith in
     rw all at (c .before .loop .inv .1)
 
 pub raise-operators-spec : {M : Type 1} → statement M
@@ -101,6 +107,7 @@ raise-operators-spec =
     (tie.spec
     Inv-loop
     μ-loop
+    all-as-asked-requires
     loop-holds
     mul-o
     array-copy-out-o
@@ -117,6 +124,7 @@ raise-operators-spec =
     element-set-from-envelope
     mul-l
     element-write-l
+    element-set-from-marked
     mul-l-2
     element-write-l-2
     add-i

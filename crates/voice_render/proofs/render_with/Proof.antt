@@ -3,15 +3,21 @@ use borrow.Author.Needs.{needs}
 use mathlib.Core.Path.{sym, subst}
 use lib.Dec.{T}
 use Rattle.voice.proofs.Tests.{refused, accepted}
-use Rattle.voice_render.proofs.Blocks.{render-9, render-8, render-7, render-blank, render-sound}
+use Rattle.voice_render.proofs.Blocks.{not-sounded, render-9, render-8, render-7, render-blank, render-sound}
 use Rattle.voice_render.proofs.render_with.Statement.{statement}
 use Rattle.voice_render.proofs.render_with.Tie as tie
+
+all-as-asked-requires : tie.Need-all-as-asked-requires
+all-as-asked-requires c κs = search needs
 
 state-fits-requires : tie.Need-state-fits-requires
 state-fits-requires c κs = search needs
 
 returns : tie.Need-returns
-returns c = render-9 _ _ _ _ _ _ (refused (c .before .state-fits .ensures) (c .if1 .taken))
+returns c =
+    let at-state-fits = c .before in
+    not-sounded (at-state-fits .before .all-as-asked .ensures)
+    (render-9 _ _ _ _ _ _ (refused (at-state-fits .state-fits .ensures) (c .if1 .taken)))
 
 block-fits-requires : tie.Need-block-fits-requires
 block-fits-requires c κs = search needs
@@ -19,8 +25,9 @@ block-fits-requires c κs = search needs
 returns-2 : tie.Need-returns-2
 returns-2 c =
     let at-state-fits = c .before .before .before in
-    render-8 _ _ _ _ _ _ (accepted (at-state-fits .state-fits .ensures) (c .before .before .if1 .left))
-    (refused (c .before .block-fits .ensures) (c .if2 .taken))
+    not-sounded (at-state-fits .before .all-as-asked .ensures)
+    (render-8 _ _ _ _ _ _ (accepted (at-state-fits .state-fits .ensures) (c .before .before .if1 .left))
+    (refused (c .before .block-fits .ensures) (c .if2 .taken)))
 
 parameters-fit-requires : tie.Need-parameters-fit-requires
 parameters-fit-requires c κs = search needs
@@ -30,9 +37,10 @@ returns-3 c =
     let at-block-fits = c .before .before .before in
     let at-if1 = at-block-fits .before in
     let at-state-fits = at-if1 .before in
-    render-7 _ _ _ _ _ _ (accepted (at-state-fits .state-fits .ensures) (at-if1 .if1 .left))
+    not-sounded (at-state-fits .before .all-as-asked .ensures)
+    (render-7 _ _ _ _ _ _ (accepted (at-state-fits .state-fits .ensures) (at-if1 .if1 .left))
     (accepted (at-block-fits .block-fits .ensures) (c .before .before .if2 .left))
-    (refused (c .before .parameters-fit .ensures) (c .if3 .taken))
+    (refused (c .before .parameters-fit .ensures) (c .if3 .taken)))
 
 set-up-requires : tie.Need-set-up-requires
 set-up-requires c κs =
@@ -47,10 +55,11 @@ returns-4 c =
     let at-block-fits = at-if2 .before in
     let at-if1 = at-block-fits .before in
     let at-state-fits = at-if1 .before in
-    render-blank _ _ _ _ _ _ (accepted (at-state-fits .state-fits .ensures) (at-if1 .if1 .left))
+    not-sounded (at-state-fits .before .all-as-asked .ensures)
+    (render-blank _ _ _ _ _ _ (accepted (at-state-fits .state-fits .ensures) (at-if1 .if1 .left))
     (accepted (at-block-fits .block-fits .ensures) (at-if2 .if2 .left))
     (accepted (at-parameters-fit .parameters-fit .ensures) (c .before .before .if3 .left)) (c .before .if4 .taken)
-    (c .set-up .ensures)
+    (c .set-up .ensures))
 
 render-sounding-requires : tie.Need-render-sounding-requires
 render-sounding-requires c κs =
@@ -81,6 +90,7 @@ pub render-with-spec : {M : Type 1} → statement M
 render-with-spec =
     tie.close
     (tie.spec
+    all-as-asked-requires
     state-fits-requires
     returns
     block-fits-requires

@@ -68,3 +68,13 @@ pub fn step(frequency: f32) -> u32 {
     );
     operator[0].phase
 }
+
+/// The mark of a frequency in document 02's words: 1 held at the top (above 0.5 or NaN), 2 held at zero (below 0), 0 as
+/// asked.
+pub fn mark(frequency: f32) -> u8 {
+    match frequency {
+        x if x > 0.5 || x.is_nan() => 1,
+        x if x < 0.0 => 2,
+        _ => 0,
+    }
+}

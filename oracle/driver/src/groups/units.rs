@@ -2,7 +2,7 @@
 //! range 7, in the order of the rules (docs/RULES.md); a refused value is written as 0.
 
 use crate::entry::draw::{Draw, quiet};
-use crate::entry::rust::step;
+use crate::entry::rust::{mark, step};
 use crate::entry::{Entry, entry};
 use crate::wire::answer::Answer;
 use crate::wire::kind::Kind::{F32, I32, U8, U8s, U32};
@@ -14,6 +14,7 @@ use plaits::utils::units::{LUT_PITCH_RATIO_HIGH, LUT_PITCH_RATIO_LOW, semitones_
 use plaits::utils::{interpolate, interpolate_wrap, random};
 
 const FLOAT: &str = "u8 number, f32";
+const STEP: &str = "u32, u8 mark: 0 as asked, 1 held at the top, 2 held at zero";
 
 pub const ENTRIES: &[Entry] = &[
     entry(0x30, "pow_2_fast", &[F32, I32], "f32", |given, _, answer| answer.f32(pow_2_fast(given.f32(), given.i32())))
@@ -120,7 +121,11 @@ pub const ENTRIES: &[Entry] = &[
             .into_iter()
             .for_each(|x| draw.u8(x as u8));
     }),
-    entry(0x3d, "frequency_step", &[F32], "u32", |given, _, answer| answer.u32(step(given.f32())))
+    entry(0x3d, "frequency_step", &[F32], STEP, |given, _, answer| {
+        let frequency = given.f32();
+        answer.name("step").u32(step(frequency));
+        answer.name("mark").u8(mark(frequency));
+    })
         .drawn(|draw| {
             let frequency = if draw.one_in(4) { draw.unit() } else { draw.quiet_f32() };
             draw.f32(frequency);

@@ -5,7 +5,7 @@
 
 use crate::entry::draw::Draw;
 use crate::entry::registers::Registers;
-use crate::entry::rust::{put_row, with_quarters, with_table};
+use crate::entry::rust::{mark, put_row, step, with_quarters, with_table};
 use crate::entry::voice::{SIZE, State};
 use crate::entry::{Entry, entry};
 use crate::groups::algorithms::{self, counted, planned, tabled};
@@ -15,13 +15,15 @@ use crate::wire::arguments::Arguments;
 use crate::wire::forms;
 use crate::wire::kind::Kind::{Bool, Bytes, F32, F32s, Floats, U8, U8s, U32};
 use plaits::fm::algorithms::{Algorithms, OPCODES_4_8, OPCODES_6_32};
+use plaits::fm::dx_units::pow_2_fast;
 use plaits::fm::patch::Patch;
 use plaits::fm::voice::{Voice, VoiceParameters};
+use plaits::utils::units::semitones_to_ratio_safe;
 
 const STATE: &str = "u8 number, the voice, 666 bytes";
 const LOADED: &str = "u8 number, u8 operator named, the voice";
-const WHOLE: &str = "u8 number, floats the block, the voice";
-const DIGEST: &str = "u8 number, u64 digest of the block and the voice";
+const WHOLE: &str = "u8 number, 6 × u8 marks, floats the block, the voice";
+const DIGEST: &str = "u8 number, 6 × u8 marks, u64 digest of the block and the voice";
 
 pub const ENTRIES: &[Entry] = &[
     entry(0x80, "voice_init", &[U32, F32], STATE, |given, registers, answer| {
@@ -131,7 +133,7 @@ pub const ENTRIES: &[Entry] = &[
                 load(registers, patch, &table).0
             }
             1 => take(registers),
-            _ => render(registers, &TRIED, &mut [0.0; 16]),
+            _ => render(registers, &TRIED, &mut [0.0; 16]).number,
         };
         answer.name("number").u8(number);
         registers.voice.form(answer);
@@ -144,8 +146,8 @@ pub const ENTRIES: &[Entry] = &[
     .weight(4),
     entry(0x87, "voice_render", &[Bool, Bool, F32s(6), Floats], WHOLE, |given, registers, answer| {
         let (parameters, mut block) = (parameters(given), given.floats());
-        let number = render(registers, &parameters, &mut block);
-        whole(answer, number, &block, &mut registers.voice);
+        let told = render(registers, &parameters, &mut block);
+        whole(answer, told, &block, &mut registers.voice);
     })
     .drawn(|draw| {
         parameters_drawn(draw);
@@ -158,16 +160,16 @@ pub const ENTRIES: &[Entry] = &[
     .weight(3),
     entry(0x88, "voice_render_seeded", &[Bool, Bool, F32s(6), U32, U32], WHOLE, |given, registers, answer| {
         let (parameters, mut block) = (parameters(given), seeded(given));
-        let number = render(registers, &parameters, &mut block);
-        whole(answer, number, &block, &mut registers.voice);
+        let told = render(registers, &parameters, &mut block);
+        whole(answer, told, &block, &mut registers.voice);
     })
     .drawn(seeds)
     .with_state()
     .weight(6),
     entry(0x89, "voice_render_digest", &[Bool, Bool, F32s(6), U32, U32], DIGEST, |given, registers, answer| {
         let (parameters, mut block) = (parameters(given), seeded(given));
-        let number = render(registers, &parameters, &mut block);
-        answer.name("number").u8(number);
+        let told = render(registers, &parameters, &mut block);
+        told.form(answer);
         answer.name("digest").u64(digest(&block, &mut registers.voice));
     })
     .drawn(seeds)
@@ -197,8 +199,8 @@ const BENT: &str =
 /// The rows of six operators that have feedback chains of three and two.
 const CHAINED: [u8; 2] = [3, 5];
 
-fn whole(answer: &mut Answer, number: u8, block: &[f32], state: &mut State) {
-    answer.name("number").u8(number);
+fn whole(answer: &mut Answer, told: Told, block: &[f32], state: &mut State) {
+    told.form(answer);
     answer.name("block").floats(block);
     state.form(answer);
 }
@@ -334,8 +336,58 @@ fn stored(voice: &State, which: u8) -> Vec<u8> {
     }
 }
 
+/// What a block's answer has besides its samples and the voice.
+struct Told {
+    number: u8,
+    marks: [u8; 6],
+}
+
+impl Told {
+    fn form(&self, answer: &mut Answer) {
+        answer.name("number").u8(self.number);
+        answer.name("marks").u8s(&self.marks);
+    }
+}
+
+/// The frequencies that a clean voice gives its operators in a block. The Rust keeps them to itself; here they come from
+/// its envelope, its ratio and its tables.
+fn frequencies<const N: usize>(voice: &Voice<'_, N, 32>, asked: &VoiceParameters, samples: usize) -> [f32; N] {
+    let (mut envelope, control) = (voice.pitch_envelope.clone().0, asked.envelope_control);
+    let gate_duration = 1.5 * voice.sample_rate;
+    let bend = if asked.sustain {
+        envelope.render_at_sample(gate_duration * control, gate_duration)
+    } else {
+        let fall = -f32::abs(control - 0.3) * 8.0;
+        envelope.render(asked.gate, samples as f32, pow_2_fast((0.5 - control) * 8.0, 1), pow_2_fast(fall, 1))
+    };
+    let semitones = asked.note - 9.0 + (bend + asked.pitch_mod) * 12.0;
+    let f0 = voice.a0 * 0.25 * semitones_to_ratio_safe(semitones);
+    voice.ratios.map(|ratio| ratio * if ratio < 0.0 { -voice.one_hz } else { f0 })
+}
+
+/// Renders a block and gives the marks of its frequencies, which must be those that moved the phases. A blank or an empty
+/// block, and the operators that a voice of four lacks, are as asked.
+fn marked<const N: usize>(voice: &mut Voice<'_, N, 32>, asked: &VoiceParameters, block: &mut [f32]) -> [u8; 6] {
+    let (samples, mut marks) = (block.len() / 4, [0; 6]);
+    let blank = voice.dirty;
+    let frequencies = frequencies(voice, asked, samples);
+    let anew = asked.gate && !voice.gate && voice.patch.as_ref().is_some_and(|patch| patch.reset_phase != 0);
+    let starts: [u32; N] = std::array::from_fn(|i| if anew { 0 } else { voice.operator[i].phase });
+    with_quarters(block, |quarters| voice.render(asked, quarters));
+    if blank || samples == 0 {
+        return marks;
+    }
+    for i in 0..N {
+        let moved = voice.operator[i].phase.wrapping_sub(starts[i]);
+        let expected = step(frequencies[i]).wrapping_mul(samples as u32);
+        assert_eq!(moved, expected, "operator {i} does not have the frequency {} in the Rust", frequencies[i]);
+        marks[i] = mark(frequencies[i]);
+    }
+    marks
+}
+
 /// Renders a block, or says why not.
-fn render(registers: &mut Registers, asked: &VoiceParameters, block: &mut [f32]) -> u8 {
+fn render(registers: &mut Registers, asked: &VoiceParameters, block: &mut [f32]) -> Told {
     let units = [asked.velocity, asked.brightness, asked.envelope_control, asked.amp_mod];
     let number = match state(registers) {
         0 if block.len() % 4 != 0 || block.len() > 4096 => 8,
@@ -343,10 +395,11 @@ fn render(registers: &mut Registers, asked: &VoiceParameters, block: &mut [f32])
         0 if !units.iter().all(|x| (0.0..=1.0).contains(x)) => 7,
         number => number,
     };
+    let mut marks = [0; 6];
     if number == 0 {
-        on_rust!(registers, |voice, _| with_quarters(block, |quarters| voice.render(asked, quarters)));
+        on_rust!(registers, |voice, _| marks = marked(voice, asked, block));
     }
-    number
+    Told { number, marks }
 }
 
 /// What a bent state is tried with: four samples at a gate.
@@ -423,10 +476,12 @@ fn packed(draw: &mut Draw, algorithm: u8) {
     bytes.into_iter().for_each(|byte| draw.u8(byte));
 }
 
-/// A byte of a voice that can make it one of number 9's, and another value for it.
+/// A byte of a voice that can make it one of number 9's, and another value for it. Or the highest byte of what its
+/// frequencies come from, made negative, a NaN or large, which no call does: blocks behind it are held, and at zero too.
 fn bends(draw: &mut Draw) {
     let stage = 65 + 48 * draw.below(7);
-    let (place, byte) = match draw.below(10) {
+    let (place, byte) = match draw.below(12) {
+        10 | 11 => (draw.one_of(&[11, 15]), draw.one_of(&[0xb7, 0xba, 0xff, 0x7f, 0x3d, 0x3f, 0x41, 0x80])),
         0 => (draw.below(4), draw.one_of(&[0, 1, 3, 5, 7, 255])),
         1 => (stage, draw.below(8) as u8),
         2 => (stage + draw.below(4), draw.any_u8()),
@@ -437,11 +492,11 @@ fn bends(draw: &mut Draw) {
         8 => (634 + draw.below(31), draw.any_u8()),
         _ => (665, draw.below(2) as u8),
     };
-    let way = draw.below(3) as u8;
+    let (way, odd) = (draw.below(3) as u8, place == 11 || place == 15);
     draw.u32(place);
     draw.u8(byte);
-    draw.u8(way);
-    let keep = draw.one_in(32) as u8;
+    draw.u8(if odd { 2 } else { way });
+    let keep = draw.one_in(if odd { 2 } else { 32 }) as u8;
     draw.u8(keep);
 }
 

@@ -1,0 +1,2 @@
+-- where each mark stands, and what its step is
+pub mod Marks

@@ -1,0 +1,2 @@
+-- what a block's marks shall be
+pub mod Marks
