@@ -6,13 +6,14 @@ use native.Mathlib.Omega.{arith}
 use borrow.Author.Tests.{ltb-true, ltb-false, eqb-true, eq-eqb, lt-ltb, le-ltb}
 use lib.Dec.{eqb, ltb}
 use lib.IntN.{pos, negsuc}
-use lib.Ieee.{Float, nan, inf, fin, binary32, lt, le, eq, isNan, mul, toUnsigned, up, down, low, emax, odd, units, round}
+use lib.Ieee.{Float, nan, inf, fin, binary32, lt, le, eq, ne, isNan, mul, toUnsigned, up, down}
+use lib.Ieee.{low, emax, odd, units, round}
 use lib.Ieee.Bits.{is-true}
 use lib.Ieee.Fits.{down-pos, round-is}
 use Rattle.numbers.specs.F32.{_⊗_, decimal}
 use Rattle.numbers.specs.Extremes.{minimum}
 use Rattle.numbers.proofs.Views.{no, on, both, or-le}
-use Rattle.numbers.proofs.Casts.{le-or}
+use Rattle.numbers.proofs.Casts.{le-or, ne-self}
 use Rattle.dx_units_step.specs.declared.Mark.{Mark}
 use Rattle.dx_units_step.specs.declared.Mark.the-variants.{AsAsked, HeldAtTop, HeldAtZero}
 use Rattle.dx_units_step.specs.Step.{stepFor, markFor}
@@ -141,6 +142,20 @@ module _ (x : Float) where
   pub asked-there : le (decimal 0 0) x ≡ true → le x (decimal 5 1) ≡ true → markFor x ≡ AsAsked
   unfolding markFor
   asked-there h k = let n = within x h k in rw (n .0, n .1) refl
+
+-- ---- by the tests of a program, in which only a NaN differs from itself
+
+module _ (x : Float) where
+  pub tested-top : (lt (decimal 5 1) x || ne x x) ≡ true → HeldAtTop ≡ markFor x
+  tested-top h = sym (top-there x (rw (← ne-self x) h))
+
+  module _ (not-top : (lt (decimal 5 1) x || ne x x) ≡ false) where
+    pub tested-zero : lt x (decimal 0 0) ≡ true → HeldAtZero ≡ markFor x
+    tested-zero h = sym (zero-there x h)
+
+    pub tested-asked : lt x (decimal 0 0) ≡ false → AsAsked ≡ markFor x
+    unfolding markFor
+    tested-asked h = rw (← ne-self x, not-top, h) refl
 
 -- ---- and the step
 

@@ -1,5 +1,5 @@
-// The step for a frequency, after operator.rs: how far a phase of 32 bits goes in a sample. It answers for every f32, and
-// says beside the number whether the frequency was held.
+// The step for a frequency, after operator.rs: how far a phase of 32 bits goes in a sample. It answers for every f32,
+// and says beside the number whether the frequency was held.
 ghost use mathlib.Core.Path.{_≡_};
 ghost use Rattle.dx_units_step.specs.Step.{markFor, steppedFor};
 
@@ -21,8 +21,8 @@ pub struct Stepped {
     pub mark: Mark,
 }
 
-// Held at the top above a half turn a sample and for a NaN, held at zero below 0. A half, -0.0 and a frequency whose step
-// is rounded down to 0 are as asked.
+// Held at the top above a half turn a sample and for a NaN, held at zero below 0. A half, -0.0 and a frequency whose
+// step is cut down to 0 are as asked.
 fn mark_of(frequency: f32) -> Mark
     ensures { λ r. ⌜ r ≡ markFor frequency ⌝ }
 {

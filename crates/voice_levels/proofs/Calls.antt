@@ -25,28 +25,31 @@ use Rattle.voice_levels.specs.declared.Levels.{Levels}
 use Rattle.voice_levels.specs.Levels.{followed, taken, frequencyOf, scalingOf, amplitudeOf, putAt, noTuned}
 use Rattle.voice_levels.specs.Levels.{raised, raisedBy, raisedTo, amplitudesTo}
 
-pub raised-of : (g : Scene) (o : Operator) (tuned : Tuned) (headroom : Float) (opcode : ℕ) (e : Envelope) {hz scale s : Float} {t : Stepped} {p : Placed}
-    → hz ≡ frequencyOf g tuned
-    → t ≡ steppedFor hz
+pub raised-of : (g : Scene) (o : Operator) (headroom : Float) (opcode : ℕ) (e : Envelope) {scale s : Float} {p : Placed}
     → scale ≡ rateScaling (g .note) (o .«rate_scaling»)
     → taken e p ≡ followed (g .timing) true (g .timing .«envelope_rate» ⊗ scale) e
     → s ≡ scalingOf g o headroom opcode
-    → raisedBy e (record { stage = p .stage; phase = p .phase; start = p .start; step = t .step; mark = t .mark; level = p .value ⊕ s }) ≡ raised g o tuned headroom opcode e
+    → raisedBy e (record { stage = p .stage; phase = p .phase; start = p .start; level = p .value ⊕ s })
+    ≡ raised g o headroom opcode e
 unfolding raised
-raised-of g o tuned headroom opcode e {s = s} {t = t} eh et ec ep es =
-    ap (λ (f : Followed). raised-by f) ep ∙ rw (et, eh, es, ec)
+raised-of g o headroom opcode e {s = s} ec ep es = ap (λ (f : Followed). raised-by f) ep ∙ rw (es, ec)
   where
-    raised-by : Followed → Leveled
-    raised-by f = record { envelope = f .envelope; step = t .step; mark = t .mark; amplitude = f .value ⊕ s }
+    raised-by : Followed → Followed
+    raised-by f = record { envelope = f .envelope; value = f .value ⊕ s }
 
 -- one operator more
-pub raised-next : (g : Scene) (ops : List Operator) (ratios : List Tuned) (headrooms : List Float) (row : List ℕ) (es : List Envelope) (k : ℕ) {l : Levels} {r : Raised} {e : Envelope}
+pub raised-next : (g : Scene) (ops : List Operator) (ratios : List Tuned) (headrooms : List Float) (row : List ℕ)
+    (es : List Envelope) (k : ℕ) {l : Levels} {hz : Float} {s : Stepped} {r : Raised} {e : Envelope}
     → l ≡ raisedTo g ops ratios headrooms row es k
-    → raisedBy (envelopeAt es k) r ≡ raised g (operatorAt ops k) (getD ratios k noTuned) (getD headrooms k nan) (getD row k 0) (envelopeAt es k)
+    → hz ≡ frequencyOf g (getD ratios k noTuned)
+    → s ≡ steppedFor hz
+    → raisedBy (envelopeAt es k) r
+    ≡ raised g (operatorAt ops k) (getD headrooms k nan) (getD row k 0) (envelopeAt es k)
     → e ≡ movedTo (envelopeAt es k) (r .stage) (r .phase) (r .start)
-    → putAt k (record { envelope = e; step = r .step; mark = r .mark; amplitude = r .level }) l ≡ raisedTo g ops ratios headrooms row es (k + 1)
+    → putAt k (record { envelope = e; step = s .step; mark = s .mark; amplitude = r .level }) l
+    ≡ raisedTo g ops ratios headrooms row es (k + 1)
 unfolding raisedTo
-raised-next g ops ratios headrooms row es k el er ee = rw (add-one k, el, ee, ← er)
+raised-next g ops ratios headrooms row es k el eh et er ee = rw (add-one k, el, ee, ← er, et, eh)
 
 -- one amplitude more
 pub sounded-next : (g : Scene) (ops : List Operator) (levels : List Float) (k : ℕ) {l : List Float} {a : Float}

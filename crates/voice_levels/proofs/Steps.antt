@@ -63,7 +63,7 @@ module _ (g : Scene) (ops : List Operator) (ratios : List Tuned) (headrooms : Li
   sounded-raised (suc n) =
       let o = operatorAt ops n in
       let one = leveled g o (getD ratios n noTuned) (getD headrooms n nan) (getD row n 0) (envelopeAt es n) in
-      let level = raised g o (getD ratios n noTuned) (getD headrooms n nan) (getD row n 0) (envelopeAt es n) .amplitude in
+      let level = raised g o (getD headrooms n nan) (getD row n 0) (envelopeAt es n) .value in
       ap (with-amplitudes (to (suc n))) (sounded-last g ops n level (to n .amplitudes))
       ∙ ap (putAt n one) (sounded-raised n)
 

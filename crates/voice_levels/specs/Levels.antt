@@ -13,7 +13,8 @@ use Rattle.dx_units_power.specs.Pow.{pow2Fast}
 use Rattle.dx_units_step.specs.declared.Mark.{Mark}
 use Rattle.dx_units_step.specs.declared.Mark.the-variants.{AsAsked}
 use Rattle.dx_units_step.specs.declared.Marked.{Marked}
-use Rattle.dx_units_step.specs.Step.{stepFor, markFor}
+use Rattle.dx_units_step.specs.declared.Stepped.{Stepped}
+use Rattle.dx_units_step.specs.Step.{stepFor, markFor, steppedFor}
 use Rattle.dx_units_inner.specs.Units.{rateScaling, keyboardScaling, ampModSensitivity}
 use Rattle.dx_units_inner.specs.declared.Ratio.{Ratio}
 use Rattle.dx_units_inner.specs.declared.Ratio.the-variants.{Note, Hertz}
@@ -166,26 +167,20 @@ module _
 
 -- ---- the same in two steps
 
--- first an operator's envelope, its step and its mark, and its level in the amplitude's place
-unfoldable pub raised : Scene → Operator → Tuned → Float → ℕ → Envelope → Leveled
-raised g o tuned headroom opcode e =
+-- first an operator's envelope and, as its value, its level
+unfoldable pub raised : Scene → Operator → Float → ℕ → Envelope → Followed
+raised g o headroom opcode e =
     let rate = g .timing .«envelope_rate» ⊗ rateScaling (g .note) (o .«rate_scaling») in
     let f = followed (g .timing) true rate e in
-    record {
-      envelope = f .envelope;
-      step = stepFor (frequencyOf g tuned);
-      mark = markFor (frequencyOf g tuned);
-      amplitude = f .value ⊕ scalingOf g o headroom opcode;
-    }
+    record { envelope = f .envelope; value = f .value ⊕ scalingOf g o headroom opcode }
 
 -- an envelope taken to where it stands then
-abbrev pub raisedBy : Envelope → Raised → Leveled
-raisedBy e r = record {
-  envelope = movedTo e (r .stage) (r .phase) (r .start);
-  step = r .step;
-  mark = r .mark;
-  amplitude = r .level;
-}
+abbrev pub raisedBy : Envelope → Raised → Followed
+raisedBy e r = record { envelope = movedTo e (r .stage) (r .phase) (r .start); value = r .level }
+
+-- with its step and its mark, and the level in the amplitude's place
+abbrev pub steppedWith : Stepped → Followed → Leveled
+steppedWith s f = record { envelope = f .envelope; step = s .step; mark = s .mark; amplitude = f .value }
 
 module _
     (g : Scene) (ops : List Operator) (ratios : List Tuned) (headrooms : List Float) (row : List ℕ) (es : List Envelope)
@@ -194,9 +189,9 @@ module _
     raisedTo zero = unleveled es
     raisedTo (suc k) =
         let one =
-        raised g (operatorAt ops k) (getD ratios k noTuned) (getD headrooms k nan) (getD row k 0) (envelopeAt es k)
+        raised g (operatorAt ops k) (getD headrooms k nan) (getD row k 0) (envelopeAt es k)
         in
-        putAt k one (raisedTo k)
+        putAt k (steppedWith (steppedFor (frequencyOf g (getD ratios k noTuned))) one) (raisedTo k)
 
 -- then the amplitudes of the first levels
 module _ (g : Scene) (ops : List Operator) where

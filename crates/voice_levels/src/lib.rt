@@ -54,13 +54,11 @@ pub struct Scene {
     pub amp_mod: f32,
 }
 
-// An operator before its level is an amplitude, with no more of its envelope than where it stands.
+// An operator's envelope after a block, no more of it than where it stands, and its level, not yet an amplitude.
 pub struct Raised {
     pub stage: usize,
     pub phase: f32,
     pub start: f32,
-    pub step: u32,
-    pub mark: Mark,
     pub level: f32,
 }
 
@@ -226,20 +224,17 @@ pub fn all_as_asked() -> [Marked; 6]
     [m, m, m, m, m, m]
 }
 
-// An operator's envelope, step with its mark, and level.
+// An operator's envelope and level.
 fn raise_operator(
     g: Scene,
     op: patch::Operator,
-    tuned: Tuned,
     level_headroom: f32,
     opcode: u8,
     e: Envelope,
 ) -> Raised
     requires { ⌜ e .stage ≤ 3 ⌝ }
-    ensures { λ r. ⌜ raisedBy e r ≡ raised g op tuned «level_headroom» opcode e ⌝ }
+    ensures { λ r. ⌜ raisedBy e r ≡ raised g op «level_headroom» opcode e ⌝ }
 {
-    let s = dx_units_step::frequency_step(frequency(g, tuned));
-    let mark = s.mark;
     let t = g.timing;
     let rate = t.envelope_rate * dx_units_inner::rate_scaling(g.note, op.rate_scaling);
     let p = place(t, true, rate, e);
@@ -248,13 +243,12 @@ fn raise_operator(
         stage: p.stage,
         phase: p.phase,
         start: p.start,
-        step: s.step,
-        mark,
         level,
     }
 }
 
-// The first operators' envelopes, steps and marks, and in the amplitudes' place their levels.
+// The first operators' envelopes, steps and marks, and in the amplitudes' place their levels. Step and mark are stored
+// before the rest is computed, which leaves more registers to that.
 fn raise_operators(
     operator_envelope: [Envelope; 6],
     row: [u8; 6],
@@ -276,16 +270,17 @@ fn raise_operators(
     };
     let mut i = 0usize;
     while i < operators {
-        let o = op[i];
         let tuned = ratios[i];
-        let e = operator_envelope[i];
-        let one = raise_operator(g, o, tuned, level_headroom[i], row[i], e);
-        let envelope = envelope_inner::move_to(e, one.stage, one.phase, one.start);
-        let mark = one.mark;
+        let s = dx_units_step::frequency_step(frequency(g, tuned));
+        let mark = s.mark;
         let marked = Marked { mark };
-        l.operator_envelope[i] = envelope;
-        l.steps[i] = one.step;
+        l.steps[i] = s.step;
         l.marks[i] = marked;
+        let o = op[i];
+        let e = operator_envelope[i];
+        let one = raise_operator(g, o, level_headroom[i], row[i], e);
+        let envelope = envelope_inner::move_to(e, one.stage, one.phase, one.start);
+        l.operator_envelope[i] = envelope;
         l.amplitudes[i] = one.level;
         i = i + 1;
     }

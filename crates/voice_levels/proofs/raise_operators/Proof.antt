@@ -26,17 +26,32 @@ loop-holds : tie.Need-loop-holds Inv-loop μ-loop
 unfolding raisedTo decimal ofBits
 loop-holds c = (omega arith, rw (c .all-as-asked .ensures) refl)
 
-mul-o : tie.Need-mul-o Inv-loop μ-loop
-mul-o c = omega arith
-
-array-copy-out-o : tie.Need-array-copy-out-o Inv-loop μ-loop
-array-copy-out-o c = omega arith
-
 mul-tuned : tie.Need-mul-tuned Inv-loop μ-loop
 mul-tuned c = omega arith
 
 array-copy-out-tuned : tie.Need-array-copy-out-tuned Inv-loop μ-loop
 array-copy-out-tuned c = omega arith
+
+frequency-requires : tie.Need-frequency-requires Inv-loop μ-loop
+frequency-requires c κs = search needs
+
+frequency-step-requires : tie.Need-frequency-step-requires Inv-loop μ-loop
+frequency-step-requires c κs = search needs
+
+mul-l : tie.Need-mul-l Inv-loop μ-loop
+mul-l c = omega arith
+
+element-write-l : tie.Need-element-write-l Inv-loop μ-loop
+element-write-l c = omega arith
+
+element-set-from-marked : tie.Need-element-set-from-marked Inv-loop μ-loop
+element-set-from-marked c = omega arith
+
+mul-o : tie.Need-mul-o Inv-loop μ-loop
+mul-o c = omega arith
+
+array-copy-out-o : tie.Need-array-copy-out-o Inv-loop μ-loop
+array-copy-out-o c = omega arith
 
 mul-e : tie.Need-mul-e Inv-loop μ-loop
 mul-e c = omega arith
@@ -55,7 +70,7 @@ array-read-raise-operator-2 c = omega arith
 
 raise-operator-requires : tie.Need-raise-operator-requires Inv-loop μ-loop
 raise-operator-requires c κs =
-    let at = c .before .before .before .before in
+    let at = c .before .before .before .before .before .before in
     stage-at-fits (at .before .before .args .t1) (at .loop .i) (at .before .before .pre .1)
 
 move-to-requires : tie.Need-move-to-requires Inv-loop μ-loop
@@ -66,15 +81,6 @@ mul-envelope c = omega arith
 
 element-set-from-envelope : tie.Need-element-set-from-envelope Inv-loop μ-loop
 element-set-from-envelope c = omega arith
-
-mul-l : tie.Need-mul-l Inv-loop μ-loop
-mul-l c = omega arith
-
-element-write-l : tie.Need-element-write-l Inv-loop μ-loop
-element-write-l c = omega arith
-
-element-set-from-marked : tie.Need-element-set-from-marked Inv-loop μ-loop
-element-set-from-marked c = omega arith
 
 mul-l-2 : tie.Need-mul-l-2 Inv-loop μ-loop
 mul-l-2 c = omega arith
@@ -92,9 +98,14 @@ loop-again : tie.Need-loop-again Inv-loop μ-loop
 unfolding operatorAt noOperator scalingWith putAt
 loop-again c =
     let one = c .before in
-    let at = one .before .before .before .before .before in
-    let a = at .before .before .args in
-    (omega arith, raised-next (a .g) (a .t5) (a .t6) (a .t7) (a .t2) (a .t1) (at .loop .i) (at .loop .inv .1) (one .raise-operator .ensures) (c .move-to .ensures))
+    let step = one .before .before .before in
+    let at = step .before .before .before .before in
+    let a = at .before .before .args in (
+      omega arith,
+      raised-next (a .g) (a .t5) (a .t6) (a .t7) (a .t2) (a .t1) (at .loop .i) (at .loop .inv .1)
+          (step .before .frequency .ensures) (step .frequency-step .ensures) (one .raise-operator .ensures)
+          (c .move-to .ensures),
+    )
 
 returns : tie.Need-returns Inv-loop μ-loop
 returns c =
@@ -109,10 +120,15 @@ raise-operators-spec =
     μ-loop
     all-as-asked-requires
     loop-holds
-    mul-o
-    array-copy-out-o
     mul-tuned
     array-copy-out-tuned
+    frequency-requires
+    frequency-step-requires
+    mul-l
+    element-write-l
+    element-set-from-marked
+    mul-o
+    array-copy-out-o
     mul-e
     array-copy-out-e
     mul-raise-operator
@@ -122,9 +138,6 @@ raise-operators-spec =
     move-to-requires
     mul-envelope
     element-set-from-envelope
-    mul-l
-    element-write-l
-    element-set-from-marked
     mul-l-2
     element-write-l-2
     add-i

@@ -349,8 +349,8 @@ impl Told {
     }
 }
 
-/// The frequencies that a clean voice gives its operators in a block. The Rust keeps them to itself; here they come from
-/// its envelope, its ratio and its tables.
+/// The frequencies that a clean voice gives its operators in a block. The Rust keeps them to itself; here they come
+/// from its envelope, its ratio and its tables.
 fn frequencies<const N: usize>(voice: &Voice<'_, N, 32>, asked: &VoiceParameters, samples: usize) -> [f32; N] {
     let (mut envelope, control) = (voice.pitch_envelope.clone().0, asked.envelope_control);
     let gate_duration = 1.5 * voice.sample_rate;
@@ -365,8 +365,8 @@ fn frequencies<const N: usize>(voice: &Voice<'_, N, 32>, asked: &VoiceParameters
     voice.ratios.map(|ratio| ratio * if ratio < 0.0 { -voice.one_hz } else { f0 })
 }
 
-/// Renders a block and gives the marks of its frequencies, which must be those that moved the phases. A blank or an empty
-/// block, and the operators that a voice of four lacks, are as asked.
+/// Renders a block and gives the marks of its frequencies, which must be those that moved the phases. A blank or an
+/// empty block, and the operators that a voice of four lacks, are as asked.
 fn marked<const N: usize>(voice: &mut Voice<'_, N, 32>, asked: &VoiceParameters, block: &mut [f32]) -> [u8; 6] {
     let (samples, mut marks) = (block.len() / 4, [0; 6]);
     let blank = voice.dirty;
@@ -477,7 +477,7 @@ fn packed(draw: &mut Draw, algorithm: u8) {
 }
 
 /// A byte of a voice that can make it one of number 9's, and another value for it. Or the highest byte of what its
-/// frequencies come from, made negative, a NaN or large, which no call does: blocks behind it are held, and at zero too.
+/// frequencies come from, made negative, a NaN or large, which no call does: blocks behind it are held, at zero too.
 fn bends(draw: &mut Draw) {
     let stage = 65 + 48 * draw.below(7);
     let (place, byte) = match draw.below(12) {
