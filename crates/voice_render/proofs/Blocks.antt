@@ -36,9 +36,11 @@ use Rattle.voice_render.specs.declared.VoiceParameters.{VoiceParameters}
 use Rattle.voice_render.specs.declared.Struck.{Struck}
 use Rattle.voice_render.specs.declared.Begun.{Begun}
 use Rattle.voice_render.specs.declared.Readied.{Readied}
+use Rattle.voice_render.specs.declared.Rendered.{Rendered}
 use Rattle.voice_render.specs.Setup.{withSetup, setUp}
 use Rattle.voice_render.specs.Block.{noteOn, struck, begun, restartedAt, allRestarted, entering, levelsFor, marksFor, after, played, sounded}
-use Rattle.voice_render.specs.Answers.{blockFits, parametersFit, Answered, unsounded, sounding, renderAnswer}
+use Rattle.voice_render.specs.Answers.{blockFits, parametersFit, Answered, answeredBy, unsounded, sounding}
+use Rattle.voice_render.specs.Answers.{renderAnswer}
 use Rattle.voice_render.specs.Answers.{readied, setupAnswer}
 
 -- ---- what is accepted
@@ -170,25 +172,26 @@ module _ (high low : List Float) (v : Voice) (p : VoiceParameters) (n : ℕ) whe
   begun-of et ef ex es = rw (ex, es, ef, et) refl
 
 module _ (pairs high low : List Float) (v : Voice) (p : VoiceParameters) (block : List Float) where
-  pub sounded-of : {b : Begun} {l : Levels} {os : List Operator} {r : Operators} {marks : List Marked} {out : List Float} {w : Voice}
+  pub sounded-of : {b : Begun} {l : Levels} {os : List Operator} {r : Operators} {out : List Float} {d : Rendered}
       → b ≡ begun high low v p (length block / 4)
       → l ≡ leveledTo (b .scene) (v .patch .op) (v .ratios) (v .«level_headroom») (v .row) (v .«operator_envelope») (v .operators)
       → os ≡ entering v p
       → record { operators = r; block = out } ≡ ran pairs (v .plan) (l .steps) (l .amplitudes) (v .patch .feedback) (record { operator = os; «feedback_state» = v .«feedback_state» }) block
-      → marks ≡ cond (eqb (length block / 4) 0) allAsAsked (l .marks)
-      → w ≡ after v p b l r
-      → record { number = 0; marks = marks; voice = w; block = out } ≡ sounding (sounded pairs high low v p block)
+      → d .number ≡ 0
+      → d .marks ≡ cond (eqb (length block / 4) 0) allAsAsked (l .marks)
+      → d .voice ≡ after v p b l r
+      → answeredBy d out ≡ sounding (sounded pairs high low v p block)
   unfolding sounded played levelsFor marksFor
-  sounded-of eb el eo er em ew =
+  sounded-of eb el eo er en em ew =
       let here = rw (el, eo, eb) at er in
-      rw (ew, em, el, eb, sym here) refl
+      rw (en, em, ew, el, eb, sym here) refl
 
 -- ---- the block's answer
 
--- one that does not sound, by the marks that were made for it
-pub not-sounded : {number : ℕ} {marks : List Marked} {v : Voice} {block : List Float} {a : Answered} → marks ≡ allAsAsked
-    → unsounded number v block ≡ a → record { number = number; marks = marks; voice = v; block = block } ≡ a
-not-sounded em e = rw em e
+-- one that does not sound
+pub not-sounded : {number : ℕ} {v : Voice} {d : Rendered} {block : List Float} {a : Answered}
+    → d ≡ record { number = number; marks = allAsAsked; voice = v } → unsounded number v block ≡ a → answeredBy d block ≡ a
+not-sounded ed e = rw ed e
 
 module _ (pairs high low : List Float) (v : Voice) (p : VoiceParameters) (block : List Float) where
   pub render-9 : stateFits v ≡ false → unsounded 9 v block ≡ renderAnswer pairs high low v p block

@@ -227,8 +227,19 @@ fn enter(v: Voice, p: VoiceParameters) -> [Operator; 6]
     o
 }
 
-fn leave(v: Voice, p: VoiceParameters, b: Begun, l: Levels, os: Operators) -> Voice
-    ensures { λ r. ⌜ r ≡ after v p b l os ⌝ }
+// The marks that a block of n samples tells: no pitch of an empty one is cut off.
+fn told(n: usize, marks: [Marked; 6]) -> [Marked; 6]
+    ensures { λ r. ⌜ r ≡ cond (eqb n 0) allAsAsked marks ⌝ }
+{
+    if n == 0 {
+        return voice_levels::all_as_asked();
+    }
+    marks
+}
+
+// What a block of n samples gives: its marks, and the voice after it.
+fn leave(n: usize, v: Voice, p: VoiceParameters, b: Begun, l: Levels, os: Operators) -> Rendered
+    ensures { λ r. ⌜ (r .number ≡ 0) × (r .marks ≡ cond (eqb n 0) allAsAsked (l .marks)) × (r .voice ≡ after v p b l os) ⌝ }
 {
     let mut w = v;
     let g = b.scene;
@@ -243,17 +254,12 @@ fn leave(v: Voice, p: VoiceParameters, b: Begun, l: Levels, os: Operators) -> Vo
     w.normalized_velocity = g.normalized_velocity;
     w.note = g.note;
     w.feedback_state = feedback_state;
-    w
-}
-
-// The marks that a block of n samples tells: no pitch of an empty one is cut off.
-fn told(n: usize, marks: [Marked; 6]) -> [Marked; 6]
-    ensures { λ r. ⌜ r ≡ cond (eqb n 0) allAsAsked marks ⌝ }
-{
-    if n == 0 {
-        return voice_levels::all_as_asked();
+    let cut = l.marks;
+    Rendered {
+        number: 0,
+        marks: told(n, cut),
+        voice: w,
     }
-    marks
 }
 
 // A sounding block: envelopes, frequencies and amplitudes first, then the plan's calls.
@@ -297,12 +303,17 @@ fn render_sounding(
         patch.feedback,
         block,
     );
-    let cut = l.marks;
-    let marks = told(n, cut);
+    leave(n, v, p, b, l, os)
+}
+
+// What a refused or a blank block gives: no pitch of it is cut off.
+fn unheard(number: u8, voice: Voice) -> Rendered
+    ensures { λ r. ⌜ r ≡ record { number = number; marks = allAsAsked; voice = voice } ⌝ }
+{
     Rendered {
-        number: 0,
-        marks,
-        voice: leave(v, p, b, l, os),
+        number,
+        marks: voice_levels::all_as_asked(),
+        voice,
     }
 }
 
@@ -320,34 +331,17 @@ pub fn render_with(
     ensures { λ r. ⌜ answeredBy r (now (block .exit))
         ≡ renderAnswer (now (pairs .entry)) (now (high .entry)) (now (low .entry)) v p (now (block .entry)) ⌝ }
 {
-    let marks = voice_levels::all_as_asked();
     if !voice::state_fits(v) {
-        return Rendered {
-            number: 9,
-            marks,
-            voice: v,
-        };
+        return unheard(9, v);
     }
     if !block_fits(block.len()) {
-        return Rendered {
-            number: 8,
-            marks,
-            voice: v,
-        };
+        return unheard(8, v);
     }
     if !parameters_fit(p) {
-        return Rendered {
-            number: 7,
-            marks,
-            voice: v,
-        };
+        return unheard(7, v);
     }
     if v.dirty {
-        return Rendered {
-            number: 0,
-            marks,
-            voice: set_up(high, low, v),
-        };
+        return unheard(0, set_up(high, low, v));
     }
     render_sounding(v, p, pairs, high, low, block)
 }

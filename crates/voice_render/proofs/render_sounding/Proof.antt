@@ -30,9 +30,6 @@ run-plan-requires c κs =
     let sound = stored _ (start .pre .0) (clean-has _ (start .pre .0) (start .pre .1)) in
     (subst Playable (sym (sound .same)) (accepted-playable _ _ (sound .accepted)), block-small _ (start .pre .2), block-whole _ (start .pre .2))
 
-told-requires : tie.Need-told-requires
-told-requires c κs = search needs
-
 leave-requires : tie.Need-leave-requires
 leave-requires c κs = search needs
 
@@ -41,13 +38,13 @@ same-length c = search needs
 
 returns : tie.Need-returns
 returns c =
-    let at-told = c .before in
-    let at-run-plan = at-told .before .before .before .before in
+    let at-run-plan = c .before .before .before in
     let at-enter = at-run-plan .before .before .before .before .before .before in
     let at-level-operators = at-enter .before in
     let at-begin = at-level-operators .before .before .before .before .before .before .before .before in
     sounded-of _ _ _ _ _ _ (at-begin .begin .ensures) (at-level-operators .level-operators .ensures)
-    (at-enter .enter .ensures) (at-run-plan .run-plan .ensures) (at-told .told .ensures) (c .leave .ensures)
+    (at-enter .enter .ensures) (at-run-plan .run-plan .ensures) (c .leave .ensures .0) (c .leave .ensures .1)
+    (c .leave .ensures .2)
 
 pub render-sounding-spec : {M : Type 1} → statement M
 render-sounding-spec =
@@ -58,7 +55,6 @@ render-sounding-spec =
     level-operators-requires
     enter-requires
     run-plan-requires
-    told-requires
     leave-requires
     same-length
     returns)

@@ -7,40 +7,47 @@ use Rattle.voice_render.proofs.Blocks.{not-sounded, render-9, render-8,
 use Rattle.voice_render.proofs.render_with.Statement.{statement}
 use Rattle.voice_render.proofs.render_with.Tie as tie
 
-all-as-asked-requires : tie.Need-all-as-asked-requires
-all-as-asked-requires c κs = search needs
-
 state-fits-requires : tie.Need-state-fits-requires
 state-fits-requires c κs = search needs
 
+unheard-requires : tie.Need-unheard-requires
+unheard-requires c κs = search needs
+
 returns : tie.Need-returns
 returns c =
-    let at-state-fits = c .before in
-    not-sounded (at-state-fits .before .all-as-asked .ensures)
-    (render-9 _ _ _ _ _ _ (refused (at-state-fits .state-fits .ensures) (c .if1 .taken)))
+    let at-if1 = c .before in
+    not-sounded (c .unheard .ensures)
+    (render-9 _ _ _ _ _ _ (refused (at-if1 .before .state-fits .ensures) (at-if1 .if1 .taken)))
 
 block-fits-requires : tie.Need-block-fits-requires
 block-fits-requires c κs = search needs
 
+unheard-requires-2 : tie.Need-unheard-requires-2
+unheard-requires-2 c κs = search needs
+
 returns-2 : tie.Need-returns-2
 returns-2 c =
-    let at-state-fits = c .before .before .before in
-    not-sounded (at-state-fits .before .all-as-asked .ensures)
-    (render-8 _ _ _ _ _ _ (accepted (at-state-fits .state-fits .ensures) (c .before .before .if1 .left))
-    (refused (c .before .block-fits .ensures) (c .if2 .taken)))
+    let at-if2 = c .before in
+    let at-if1 = at-if2 .before .before in
+    not-sounded (c .unheard2 .ensures)
+    (render-8 _ _ _ _ _ _ (accepted (at-if1 .before .state-fits .ensures) (at-if1 .if1 .left))
+    (refused (at-if2 .before .block-fits .ensures) (at-if2 .if2 .taken)))
 
 parameters-fit-requires : tie.Need-parameters-fit-requires
 parameters-fit-requires c κs = search needs
 
+unheard-requires-3 : tie.Need-unheard-requires-3
+unheard-requires-3 c κs = search needs
+
 returns-3 : tie.Need-returns-3
 returns-3 c =
-    let at-block-fits = c .before .before .before in
-    let at-if1 = at-block-fits .before in
-    let at-state-fits = at-if1 .before in
-    not-sounded (at-state-fits .before .all-as-asked .ensures)
-    (render-7 _ _ _ _ _ _ (accepted (at-state-fits .state-fits .ensures) (at-if1 .if1 .left))
-    (accepted (at-block-fits .block-fits .ensures) (c .before .before .if2 .left))
-    (refused (c .before .parameters-fit .ensures) (c .if3 .taken)))
+    let at-if3 = c .before in
+    let at-if2 = at-if3 .before .before in
+    let at-if1 = at-if2 .before .before in
+    not-sounded (c .unheard3 .ensures)
+    (render-7 _ _ _ _ _ _ (accepted (at-if1 .before .state-fits .ensures) (at-if1 .if1 .left))
+    (accepted (at-if2 .before .block-fits .ensures) (at-if2 .if2 .left))
+    (refused (at-if3 .before .parameters-fit .ensures) (at-if3 .if3 .taken)))
 
 set-up-requires : tie.Need-set-up-requires
 set-up-requires c κs =
@@ -48,18 +55,20 @@ set-up-requires c κs =
     let at-state-fits = at-if1 .before in
     subst T (sym (accepted (at-state-fits .state-fits .ensures) (at-if1 .if1 .left))) tt
 
+unheard-requires-4 : tie.Need-unheard-requires-4
+unheard-requires-4 c κs = search needs
+
 returns-4 : tie.Need-returns-4
 returns-4 c =
-    let at-parameters-fit = c .before .before .before in
-    let at-if2 = at-parameters-fit .before in
-    let at-block-fits = at-if2 .before in
-    let at-if1 = at-block-fits .before in
-    let at-state-fits = at-if1 .before in
-    not-sounded (at-state-fits .before .all-as-asked .ensures)
-    (render-blank _ _ _ _ _ _ (accepted (at-state-fits .state-fits .ensures) (at-if1 .if1 .left))
-    (accepted (at-block-fits .block-fits .ensures) (at-if2 .if2 .left))
-    (accepted (at-parameters-fit .parameters-fit .ensures) (c .before .before .if3 .left)) (c .before .if4 .taken)
-    (c .set-up .ensures))
+    let at-if4 = c .before .before in
+    let at-if3 = at-if4 .before in
+    let at-if2 = at-if3 .before .before in
+    let at-if1 = at-if2 .before .before in
+    not-sounded (c .unheard4 .ensures)
+    (render-blank _ _ _ _ _ _ (accepted (at-if1 .before .state-fits .ensures) (at-if1 .if1 .left))
+    (accepted (at-if2 .before .block-fits .ensures) (at-if2 .if2 .left))
+    (accepted (at-if3 .before .parameters-fit .ensures) (at-if3 .if3 .left)) (at-if4 .if4 .taken)
+    (c .before .set-up .ensures))
 
 render-sounding-requires : tie.Need-render-sounding-requires
 render-sounding-requires c κs =
@@ -90,14 +99,17 @@ pub render-with-spec : {M : Type 1} → statement M
 render-with-spec =
     tie.close
     (tie.spec
-    all-as-asked-requires
     state-fits-requires
+    unheard-requires
     returns
     block-fits-requires
+    unheard-requires-2
     returns-2
     parameters-fit-requires
+    unheard-requires-3
     returns-3
     set-up-requires
+    unheard-requires-4
     returns-4
     render-sounding-requires
     same-length
