@@ -26,7 +26,7 @@ use std::hint::black_box;
 type Check = (&'static str, fn() -> bool);
 
 pub fn smoke() -> bool {
-    let checks: [Check; 12] = [
+    let checks: [Check; 13] = [
         ("entries take what is drawn for them", entries_fit),
         ("states read as they are written", forms_fit),
         ("conversions", conversions),
@@ -36,6 +36,7 @@ pub fn smoke() -> bool {
         ("rows put in", rows),
         ("an LFO and two envelopes", lfo_and_envelopes),
         ("two voices' blocks", voices),
+        ("each mark in drawn blocks", marks),
         ("a patch by hand in both forms", single::agrees_with_hand),
         ("a dump by hand in pieces", pieces::agrees_with_hand),
         ("dumps in pieces and whole", || pieces::agrees_with_whole(500)),
@@ -150,6 +151,22 @@ fn lfo_and_envelopes() -> bool {
     let level = operator_envelope.0.render(true, 1000.0, 1.0, 1.0);
     let scrubbed = operator_envelope.0.render_at_sample(1e6, 1e9);
     lfo.phase > 0.0 && lfo.value != 0.5 && level > 0.0 && scrubbed == level && pitch_envelope.0.level == [0.0; 4]
+}
+
+/// A drawn script of voices has blocks with each of the three marks, and one with all of them.
+fn marks() -> bool {
+    let entries: Vec<_> = table::by_number().into_iter().flatten().filter(|entry| entry.number >> 4 == 8).collect();
+    let (mut registers, mut script) = (Registers::new(), Generator::new(11, &entries));
+    let mut met = [false; 8];
+    for _ in 0..20_000 {
+        let (entry, call) = script.next();
+        let mut answer = Answer::default();
+        (entry.answer)(&mut Arguments(&call[1..]), &mut registers, &mut answer);
+        if (0x87..=0x89).contains(&entry.number) {
+            met[answer.bytes[1..7].iter().fold(0, |set, mark| set | 1 << mark)] = true;
+        }
+    }
+    met[1] && met[3] && met[5] && met[7]
 }
 
 /// A voice of four with a row put in, and one of six with a built-in row.
