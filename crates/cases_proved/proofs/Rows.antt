@@ -19,8 +19,8 @@ use Rattle.refusals.specs.Refusals.{letters}
 use Rattle.cases_proved.specs.Cases.{textOf, AllHold, cases}
 
 pub cases-hold : AllHold cases
-unfolding operatorLevelAnswer operatorLevel operatorEnvelopeIncrementAnswer operatorEnvelopeIncrement stepFor markFor minimum
-    envelopeField operatorField decimal minusDecimal ofInt div mul lt isNan toUnsigned
+unfolding operatorLevelAnswer operatorLevel operatorEnvelopeIncrementAnswer operatorEnvelopeIncrement
+    stepFor markFor minimum envelopeField operatorField decimal minusDecimal ofInt div mul lt isNan toUnsigned
     destination adding source flagged lastOperator unmet ends grown reused chained originFrom modulation known renders
     callLength rendered
     callOf reading ready unready extended planFrom counted planned six moved

@@ -1,5 +1,5 @@
--- The worked cases of document 01, P1 to P15, as rows of one list; P8 to P11 with the marks of document 02's request e. A kind of row has a constructor and a line of
--- `Holds`. Definitions only, all to be believed.
+-- The worked cases of document 01, P1 to P15, as rows of one list; P8 to P11 with the marks of document 02's request e.
+-- A kind of row has a constructor and a line of `Holds`. Definitions only, all to be believed.
 use mathlib.Core.Path.{_≡_}
 use mathlib.Core.List.{List, [], _∷_, _++_}
 use Prim.Native.Nat.{ℕ, _^_}

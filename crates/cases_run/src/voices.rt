@@ -39,8 +39,8 @@ fn dirty() -> Voice {
     loaded(&zeros)
 }
 
-// One whose every second operator has 31 times the note's frequency, the others half of it; its pitch envelope stands at
-// 50, which is none.
+// One whose every second operator has 31 times the note's frequency, the others half of it; its pitch envelope stands
+// at 50, which is none.
 fn high() -> Voice {
     let mut packed = [0u8; 128];
     packed[15] = 62;

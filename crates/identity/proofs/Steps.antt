@@ -60,18 +60,21 @@ unfolding readied
 readied-of p et em el es eset er en = rw (en, er, eset, es, el, em, et) refl
 
 module _ (pairs high low : List Float) where
-  pub set-up-of : (v : Voice) (note : Float) {q : VoiceParameters} {r : Rendered} {block : List Float} → q ≡ parametersOf note false (decimal 0 0) (decimal 0 0)
+  pub set-up-of : (v : Voice) (note : Float) {q : VoiceParameters} {r : Rendered} {block : List Float}
+      → q ≡ parametersOf note false (decimal 0 0) (decimal 0 0)
       → answeredBy r block ≡ renderAnswer pairs high low v q silence → r .voice ≡ setUpFor pairs high low v note
   unfolding setUpFor
   set-up-of v note eq e = ap (λ (a : Answered). a .voice) (rw eq at e)
 
 module _ (lut pairs high low : List Float) where
-  pub block-played-of : (note : Float) (gate : Bool) (s : Playing) {m : Moved} {pitch amp : Read} {q : VoiceParameters} {r : Rendered} {hash : ℕ} {block : List Float}
+  pub block-played-of : (note : Float) (gate : Bool) (s : Playing) {m : Moved} {pitch amp : Read} {q : VoiceParameters}
+      {r : Rendered} {hash : ℕ} {block : List Float}
       → m ≡ lfo.stepAnswer lut (s .lfo) (s .random) (decimal 64 0) → pitch ≡ lfo.pitchModAnswer (m .lfo) → amp ≡ lfo.ampModAnswer (m .lfo)
       → q ≡ parametersOf note gate (pitch .value) (amp .value)
       → answeredBy r block ≡ renderAnswer pairs high low (s .voice) q silence
       → hash ≡ hashedSamples block 64 (s .hash)
-      → record { voice = r .voice; lfo = m .lfo; random = m .state; hash = hash } ≡ blockPlayed lut pairs high low note gate s
+      → record { voice = r .voice; lfo = m .lfo; random = m .state; hash = hash }
+      ≡ blockPlayed lut pairs high low note gate s
   unfolding blockPlayed
   block-played-of note gate s em ep ea eq er eh =
       let here = rw (eq, ep, ea, em) at er in

@@ -50,7 +50,12 @@ module _ (g : Scene) (ops : List Operator) where
 
 -- levels with other amplitudes
 abbrev with-amplitudes : Levels → List Float → Levels
-with-amplitudes l amplitudes = record { «operator_envelope» = l .«operator_envelope»; steps = l .steps; marks = l .marks; amplitudes = amplitudes }
+with-amplitudes l amplitudes = record {
+  «operator_envelope» = l .«operator_envelope»;
+  steps = l .steps;
+  marks = l .marks;
+  amplitudes = amplitudes;
+}
 
 module _ (g : Scene) (ops : List Operator) (ratios : List Tuned) (headrooms : List Float) (row : List ℕ) (es : List Envelope) where
   abbrev to : ℕ → Levels

@@ -302,8 +302,8 @@ fn amplitudes_of(g: Scene, operators: usize, op: [patch::Operator; 6], levels: [
     l
 }
 
-// The first `operators` of six; the others keep their envelopes, their steps and amplitudes are 0, and their marks say as
-// asked. Two loops, so that the processor overlaps the operators in each.
+// The first `operators` of six; the others keep their envelopes, their steps and amplitudes are 0, and their marks say
+// as asked. Two loops, so that the processor overlaps the operators in each.
 pub fn level_operators(
     g: Scene,
     operators: usize,

@@ -91,7 +91,8 @@ module _ (pairs high low : List Float) (v : Voice) (p : VoiceParameters) (one ot
       whole in
       let long' = ran-length pairs (v .plan) (levels .steps) (levels .amplitudes) (v .patch .feedback) before other
       (rw (← l) whole) in
-      rw (← l) (same-answer 0 (marksFor pairs high low v p (n / 4)) (ap (after v p (begun high low v p (n / 4)) levels) (same .0))
+      rw (← l) (same-answer 0 (marksFor pairs high low v p (n / 4))
+      (ap (after v p (begun high low v p (n / 4)) levels) (same .0))
       (output-fits n _ long size ∙ same .1 ∙ sym (output-fits n _ (long' ∙ sym l) size)))
 
   -- any block: refused or blank, it stays as it was

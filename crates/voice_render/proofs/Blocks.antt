@@ -38,7 +38,8 @@ use Rattle.voice_render.specs.declared.Begun.{Begun}
 use Rattle.voice_render.specs.declared.Readied.{Readied}
 use Rattle.voice_render.specs.declared.Rendered.{Rendered}
 use Rattle.voice_render.specs.Setup.{withSetup, setUp}
-use Rattle.voice_render.specs.Block.{noteOn, struck, begun, restartedAt, allRestarted, entering, levelsFor, marksFor, after, played, sounded}
+use Rattle.voice_render.specs.Block.{noteOn, struck, begun, restartedAt, allRestarted, entering, levelsFor}
+use Rattle.voice_render.specs.Block.{marksFor, after, played, sounded}
 use Rattle.voice_render.specs.Answers.{blockFits, parametersFit, Answered, answeredBy, unsounded, sounding}
 use Rattle.voice_render.specs.Answers.{renderAnswer}
 use Rattle.voice_render.specs.Answers.{readied, setupAnswer}
@@ -190,7 +191,8 @@ module _ (pairs high low : List Float) (v : Voice) (p : VoiceParameters) (block 
 
 -- one that does not sound
 pub not-sounded : {number : ℕ} {v : Voice} {d : Rendered} {block : List Float} {a : Answered}
-    → d ≡ record { number = number; marks = allAsAsked; voice = v } → unsounded number v block ≡ a → answeredBy d block ≡ a
+    → d ≡ record { number = number; marks = allAsAsked; voice = v } → unsounded number v block ≡ a
+    → answeredBy d block ≡ a
 not-sounded ed e = rw ed e
 
 module _ (pairs high low : List Float) (v : Voice) (p : VoiceParameters) (block : List Float) where

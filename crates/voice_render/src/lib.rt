@@ -35,8 +35,8 @@ pub struct VoiceParameters {
     pub amp_mod: f32,
 }
 
-// What a block gives besides its samples. The marks tell of each operator whether its pitch was cut off: they are all as
-// asked where the block is refused, blank or empty.
+// What a block gives besides its samples. The marks tell of each operator whether its pitch was cut off: they are all
+// as asked where the block is refused, blank or empty.
 pub struct Rendered {
     pub number: u8,
     pub marks: [Marked; 6],
@@ -239,7 +239,8 @@ fn told(n: usize, marks: [Marked; 6]) -> [Marked; 6]
 
 // What a block of n samples gives: its marks, and the voice after it.
 fn leave(n: usize, v: Voice, p: VoiceParameters, b: Begun, l: Levels, os: Operators) -> Rendered
-    ensures { λ r. ⌜ (r .number ≡ 0) × (r .marks ≡ cond (eqb n 0) allAsAsked (l .marks)) × (r .voice ≡ after v p b l os) ⌝ }
+    ensures { λ r. ⌜ (r .number ≡ 0) × (r .marks ≡ cond (eqb n 0) allAsAsked (l .marks))
+        × (r .voice ≡ after v p b l os) ⌝ }
 {
     let mut w = v;
     let g = b.scene;
