@@ -126,11 +126,11 @@ pub const ENTRIES: &[Entry] = &[
         answer.name("step").u32(step(frequency));
         answer.name("mark").u8(mark(frequency));
     })
-        .drawn(|draw| {
-            let frequency = if draw.one_in(4) { draw.unit() } else { draw.quiet_f32() };
-            draw.f32(frequency);
-        })
-        .every(SPREAD, |nth, draw| draw.f32(quiet(pattern(nth, SPREAD)))),
+    .drawn(|draw| {
+        let frequency = if draw.one_in(4) { draw.unit() } else { draw.quiet_f32() };
+        draw.f32(frequency);
+    })
+    .every(SPREAD, |nth, draw| draw.f32(quiet(pattern(nth, SPREAD)))),
     entry(0x3e, "sine", &[F32], "f32", |given, _, answer| answer.f32(sine(given.f32())))
         .drawn(|draw| {
             let phase = index(draw);
