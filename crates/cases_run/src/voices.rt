@@ -137,6 +137,70 @@ fn marks(going: bool) -> bool {
     marked(c, b"marks of an empty block: ", empty)
 }
 
+// A voice whose patch has a transpose, its switch on or off.
+fn transposing(transpose: u8, on: bool) -> Voice {
+    let mut packed = [0u8; 128];
+    packed[117] = transpose;
+    let done = voice::set_transposing(loaded(&packed), on);
+    let v = done.voice;
+    v
+}
+
+// The note that a voice has after a blank block and a sounding one.
+fn played(going: bool, text: &[u8], v: Voice, note: f32) -> bool {
+    let mut block = [0.0f32; 8];
+    let blank = voice_render::render(v, parameters(note), &mut block);
+    let w = blank.voice;
+    let sounding = voice_render::render(w, parameters(note), &mut block);
+    let x = sounding.voice;
+    line(going, text, numbers::f32_as_u32(x.note) as u64)
+}
+
+// The number of a blank block.
+fn asked(going: bool, text: &[u8], v: Voice, note: f32) -> bool {
+    let mut block = [0.0f32; 8];
+    line(
+        going,
+        text,
+        voice_render::render(v, parameters(note), &mut block).number as u64,
+    )
+}
+
+// The shifted note at the ends of its range, and one step beyond each.
+fn transposes(going: bool) -> bool {
+    let low = transposing(0, true);
+    let high = transposing(48, true);
+    let taken = voice::take_patch(high);
+    let none = taken.voice;
+    let a = played(
+        going,
+        b"transpose 36, switch off, note 60 plays: ",
+        transposing(36, false),
+        60.0,
+    );
+    let b = played(
+        a,
+        b"transpose 36, switch on, note 60 plays: ",
+        transposing(36, true),
+        60.0,
+    );
+    let c = asked(b, b"transpose 0, switch on, note 24: ", low, 24.0);
+    let d = asked(
+        c,
+        b"transpose 0, switch on, note 23.999998: ",
+        low,
+        23.999998,
+    );
+    let e = asked(d, b"transpose 48, switch on, note 103: ", high, 103.0);
+    let f = asked(
+        e,
+        b"transpose 48, switch on, note 103.00001: ",
+        high,
+        103.00001,
+    );
+    asked(f, b"no patch, switch on, note 103.00001: ", none, 103.00001)
+}
+
 fn taken_out(going: bool, text: &[u8], v: Voice) -> bool {
     line(going, text, voice::take_patch(v).number as u64)
 }
@@ -158,5 +222,6 @@ pub fn run(going: bool) -> bool {
     let c = gates(b);
     let d = blocks(c);
     let e = marks(d);
-    refusals(e)
+    let f = transposes(e);
+    refusals(f)
 }

@@ -1,6 +1,6 @@
-// The judge's entries 80 to 8f (hex, docs/ORACLE.md): the crates `voice` and `voice_render`. An answer stands from place
-// 5 on. A voice is its fields in the struct's order, 666 bytes: a ratio is its kind (0 to the note, 1 to 1 Hz) and a
-// float.
+// The judge's entries 80 to 8f (hex, docs/ORACLE.md): the crates `voice` and `voice_render`. An answer stands from
+// place 5 on. A voice is its fields in the struct's order, 667 bytes: a ratio is its kind (0 to the note, 1 to 1 Hz) and
+// a float.
 ghost use Prim.Native.Nat.{_≤_};
 use algorithms::Plan;
 use dx_units_inner::Ratio;
@@ -17,7 +17,7 @@ use voice_render::VoiceParameters;
 use voice_setup::Tuned;
 
 // The bytes of a voice, and the numbers of the longest block.
-const SIZE: u32 = 666;
+const SIZE: u32 = 667;
 
 const LONGEST: usize = 4352;
 
@@ -29,6 +29,7 @@ pub fn length(entry: u8, s: &[u8]) -> usize {
         0x82 => 130,
         0x83 => 135,
         0x84 | 0x85 | 0x8b | 0x8c => 1,
+        0x8a => 2,
         0x86 => 8,
         0x87 => 29 + 4 * judge_wire::half(s, 27) as usize,
         0x88 | 0x89 => 35,
@@ -39,7 +40,7 @@ pub fn length(entry: u8, s: &[u8]) -> usize {
 // Writes what the call answers, and answers the place behind it.
 pub fn answer(entry: u8, s: &[u8], registers: &mut [u8], out: &mut [u8]) -> usize {
     match entry {
-        0x80 | 0x84 => prepare(entry, s, registers, out),
+        0x80 | 0x84 | 0x8a => prepare(entry, s, registers, out),
         0x81..=0x83 => set(entry, s, registers, out),
         0x85 => judge_wire::put_bytes(out, 5, held(registers)),
         0x86 => bend(s, registers, out),
@@ -72,10 +73,11 @@ fn prepare(entry: u8, s: &[u8], registers: &mut [u8], out: &mut [u8]) -> usize {
 }
 
 fn prepared(entry: u8, s: &[u8], v: Voice) -> Prepared {
-    if entry == 0x80 {
-        return voice::init(judge_wire::word(s, 1) as usize, judge_wire::float(s, 5));
+    match entry {
+        0x80 => voice::init(judge_wire::word(s, 1) as usize, judge_wire::float(s, 5)),
+        0x8a => voice::set_transposing(v, flag(s, 1)),
+        _ => voice::take_patch(v),
     }
-    voice::take_patch(v)
 }
 
 fn set(entry: u8, s: &[u8], registers: &mut [u8], out: &mut [u8]) -> usize {
@@ -371,7 +373,7 @@ struct Setting {
     plan: Plan,
 }
 
-// The voice in 666 bytes.
+// The voice in 667 bytes.
 fn voice(s: &[u8]) -> Voice {
     let a = judge_wire::four(s, 4);
     let b = judge_wire::four(s, 401);
@@ -389,6 +391,7 @@ fn voice(s: &[u8]) -> Voice {
     let gate = flag(s, 16);
     let has_patch = flag(s, 471);
     let dirty = flag(s, 665);
+    let transposing = flag(s, 666);
     Voice {
         operators,
         sample_rate: a[0],
@@ -408,6 +411,7 @@ fn voice(s: &[u8]) -> Voice {
         row,
         plan,
         dirty,
+        transposing,
     }
 }
 
@@ -533,7 +537,8 @@ fn put_patch(out: &mut [u8], at: usize, v: Voice) -> usize {
     let b = judge_patches::put_patch(out, a, patch);
     let c = judge_rows::put_six(out, b, row);
     let d = judge_rows::put_plan(out, c, plan);
-    judge_wire::put_bool(out, d, v.dirty)
+    let e = judge_wire::put_bool(out, d, v.dirty);
+    judge_wire::put_bool(out, e, v.transposing)
 }
 
 fn put_operators(out: &mut [u8], at: usize, operator: [Operator; 6]) -> usize {

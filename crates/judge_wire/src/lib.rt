@@ -16,11 +16,11 @@ pub const VOICE: u8 = 254;
 
 // The reader of a bank in pieces, which no answer writes: its count in eight bytes, its frame, its sum and whether it
 // has ended; and the 128 bytes of its buffer.
-pub const READER: usize = 920;
+pub const READER: usize = 921;
 
-pub const READER_BUFFER: usize = 931;
+pub const READER_BUFFER: usize = 932;
 
-pub const REGISTERS: usize = 1059;
+pub const REGISTERS: usize = 1060;
 
 // The byte at a place.
 pub fn byte(s: &[u8], at: usize) -> u8 {

@@ -1,6 +1,6 @@
 -- No call on the way to an identifier is refused: from an accepted voice and a tame LFO every block is answered and leaves such a voice and such an LFO.
 -- Assumes nothing.
-use mathlib.Core.Path.{_≡_, refl}
+use mathlib.Core.Path.{_≡_, refl, ap, _∙_}
 use mathlib.Core.Bool.{Bool, true, false, cond, _&&_}
 use mathlib.Core.List.{List}
 use Prim.Native.Nat.{ℕ, zero, suc}
@@ -24,11 +24,13 @@ use Rattle.lfo.proofs.Calls.{init-valid}
 use Rattle.voice.specs.declared.Voice.{Voice}
 use Rattle.voice.specs.Answers.{stateFits, initAnswer, setPatchAnswer}
 use Rattle.voice.proofs.Kept.{init-fits, set-patch-keeps}
+use Rattle.voice.proofs.Switch.{init-off, set-patch-switch}
 use Rattle.voice_render.specs.declared.VoiceParameters.{VoiceParameters}
 use Rattle.voice_render.specs.Setup.{setUp}
-use Rattle.voice_render.specs.Block.{sounded}
+use Rattle.voice_render.specs.Block.{playedBy, sounded}
 use Rattle.voice_render.specs.Answers.{blockFits, parametersFit, unsounded, sounding, renderAnswer}
 use Rattle.voice_render.proofs.Kept.{render-keeps}
+use Rattle.voice_render.proofs.Switch.{fits-as-given, render-switch}
 use Rattle.identity.specs.declared.Ready.{Ready}
 use Rattle.identity.specs.declared.Playing.{Playing}
 use Rattle.identity.specs.Identity.{readied, parametersOf, silence, setUpFor, blockPlayed, blocksPlayed, identityOf}
@@ -59,31 +61,48 @@ parameters-fit : (note pitch amp : Float) (gate : Bool) → KeyFits note → Pit
 unfolding parametersFit parametersOf decimal le lt
 parameters-fit note pitch amp gate k p a = together (together (together (together (together k refl) refl) refl) p) a
 
+-- a voice that 9 accepts, its switch off
+pub record Plain (v : Voice) : Type 0 where
+  pub fits : T (stateFits v)
+  pub off : v .transposing ≡ false
+
 -- neither 9 nor 8 nor 7
-render-answered : (pairs high low : List Float) (v : Voice) (p : VoiceParameters) (block : List Float) → T (stateFits v) → blockFits (length block) ≡ true
-    → parametersFit p ≡ true → renderAnswer pairs high low v p block .number ≡ 0
+render-answered : (pairs high low : List Float) (v : Voice) (p : VoiceParameters) (block : List Float) → Plain v
+    → blockFits (length block) ≡ true → parametersFit p ≡ true → renderAnswer pairs high low v p block .number ≡ 0
 unfolding renderAnswer
-render-answered pairs high low v p block t size fit = rw (is-true (stateFits v) t, size, fit) (go (v .dirty))
+render-answered pairs high low v p block t size fit =
+    let asked = fits-as-given v p (ap (λ (b : Bool). b && v .«has_patch») (t .off)) in
+    rw (is-true (stateFits v) (t .fits), size, asked, fit) (go (v .dirty))
   where
-    go : (b : Bool) → cond b (unsounded 0 (setUp high low v) block) (sounding (sounded pairs high low v p block)) .number ≡ 0
+    go : (b : Bool)
+        → cond b (unsounded 0 (setUp high low v) block) (sounding (sounded pairs high low v (playedBy v p) block)) .number
+        ≡ 0
     go true = refl
     go false = refl
 
+-- any block leaves such a voice
+render-plain : (pairs high low : List Float) (v : Voice) (p : VoiceParameters) (block : List Float) → Plain v
+    → Plain (renderAnswer pairs high low v p block .voice)
+render-plain pairs high low v p block t = record {
+  fits = render-keeps v (t .fits) pairs high low p block .0;
+  off = render-switch pairs high low v p block ∙ t .off;
+}
+
 -- ---- a block of a note
 
--- what a block is played from, and leaves: a voice that 9 accepts and a tame LFO
+-- what a block is played from, and leaves: a voice that 9 accepts, its switch off, and a tame LFO
 pub record Playable (s : Playing) : Type 0 where
-  pub voice : T (stateFits (s .voice))
+  pub voice : Plain (s .voice)
   pub lfo : Tame (s .lfo)
 
 module _ (pairs high low : List Float) (note : Float) (key : KeyFits note) where
-  set-up-answered : (v : Voice) → T (stateFits v) → setUpAnswered pairs high low v note ≡ true
+  set-up-answered : (v : Voice) → Plain v → setUpAnswered pairs high low v note ≡ true
   unfolding setUpAnswered decimal minusDecimal le lt
   set-up-answered v t = eq-eqb _ 0 (render-answered pairs high low v _ silence t silence-fits (parameters-fit note _ _ false key refl refl))
 
-  set-up-keeps : (v : Voice) → T (stateFits v) → T (stateFits (setUpFor pairs high low v note))
+  set-up-keeps : (v : Voice) → Plain v → Plain (setUpFor pairs high low v note)
   unfolding setUpFor
-  set-up-keeps v t = render-keeps v t pairs high low _ silence .0
+  set-up-keeps v t = render-plain pairs high low v _ silence t
 
   block-answered : (gate : Bool) (s : Playing) → Playable s → blockAnswered lutSine pairs high low note gate s ≡ true
   unfolding blockAnswered
@@ -98,7 +117,7 @@ module _ (pairs high low : List Float) (note : Float) (key : KeyFits note) where
   block-keeps : (gate : Bool) (s : Playing) → Playable s → Playable (blockPlayed lutSine pairs high low note gate s)
   unfolding blockPlayed
   block-keeps gate s t =
-      record { voice = render-keeps (s .voice) (t .voice) pairs high low _ silence .0; lfo = step-tame (s .lfo) (s .random) (t .lfo) .1 }
+      record { voice = render-plain pairs high low (s .voice) _ silence (t .voice); lfo = step-tame (s .lfo) (s .random) (t .lfo) .1 }
 
   -- ---- so many blocks
 
@@ -114,7 +133,7 @@ module _ (pairs high low : List Float) (note : Float) (key : KeyFits note) where
 
   -- ---- a note
 
-  pub note-answered : (r : Ready) (hash : ℕ) → T (stateFits (r .voice)) → Tame (r .lfo) → noteAnswered lutSine pairs high low r note hash ≡ true
+  pub note-answered : (r : Ready) (hash : ℕ) → Plain (r .voice) → Tame (r .lfo) → noteAnswered lutSine pairs high low r note hash ≡ true
   unfolding noteAnswered
   note-answered r hash v l =
       let s : Playing = record { voice = setUpFor pairs high low (r .voice) note; lfo = r .lfo; random = 0x21; hash = hash } in
@@ -127,9 +146,14 @@ six-counted : T (counted 6)
 unfolding counted
 six-counted = tt
 
-ready-fits : (p : Patch) → T (stateFits (readied p .voice))
+ready-plain : (p : Patch) → Plain (readied p .voice)
 unfolding readied
-ready-fits p = set-patch-keeps _ (init-fits 6 (decimal 48000 0) six-counted rate-accepted) p sixOperators .0
+ready-plain p =
+    let fresh = initAnswer 6 (decimal 48000 0) .voice in
+    record {
+      fits = set-patch-keeps fresh (init-fits 6 (decimal 48000 0) six-counted rate-accepted) p sixOperators .0;
+      off = set-patch-switch fresh p sixOperators ∙ init-off 6 (decimal 48000 0);
+    }
 
 -- the notes of every patch that a voice and an LFO take
 pub notes-answered : (p : Patch) → readied p .number ≡ 0 → notesAnswered lutSine sinePairs lutPitchRatioHigh lutPitchRatioLow (readied p) ≡ true
@@ -137,7 +161,7 @@ unfolding notesAnswered decimal le lt
 notes-answered p e = together (together (note _ refl _) (note _ refl _)) (note _ refl _)
   where
     note : (n : Float) → KeyFits n → (hash : ℕ) → noteAnswered lutSine sinePairs lutPitchRatioHigh lutPitchRatioLow (readied p) n hash ≡ true
-    note n k hash = note-answered sinePairs lutPitchRatioHigh lutPitchRatioLow n k (readied p) hash (ready-fits p) (ready-tame p e)
+    note n k hash = note-answered sinePairs lutPitchRatioHigh lutPitchRatioLow n k (readied p) hash (ready-plain p) (ready-tame p e)
 
 -- ---- what comes before the notes
 

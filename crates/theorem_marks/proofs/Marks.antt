@@ -16,8 +16,8 @@ use Rattle.voice.specs.declared.Voice.{Voice}
 use Rattle.voice.specs.Answers.{stateFits}
 use Rattle.voice.proofs.States.{state-fits}
 use Rattle.voice_render.specs.declared.VoiceParameters.{VoiceParameters}
-use Rattle.voice_render.specs.Block.{levelsFor, marksFor, sounded}
-use Rattle.voice_render.specs.Answers.{blockFits, parametersFit, renderAnswer}
+use Rattle.voice_render.specs.Block.{playedBy, levelsFor, marksFor, sounded}
+use Rattle.voice_render.specs.Answers.{blockFits, parametersFitFor, renderAnswer}
 use Rattle.voice_render.proofs.Blocks.{count-at-most-6, block-whole}
 use Rattle.voice_render.proofs.Alike.{answerBy}
 use Rattle.theorem_marks.specs.Marks.{refused, untold, frequencyIn, markIn}
@@ -38,9 +38,13 @@ module _ (pairs high low : List Float) (v : Voice) (p : VoiceParameters) (block 
   abbrev n : ℕ
   n = length block / 4
 
+  -- what the block plays
+  abbrev q : VoiceParameters
+  q = playedBy v p
+
   -- a sounding block
   sounding-mark : (k : ℕ) → T (stateFits v) → (empty : Bool) → eqb n 0 ≡ empty
-      → getD (marksFor pairs high low v p n) k (marked AsAsked)
+      → getD (marksFor pairs high low v q n) k (marked AsAsked)
       ≡ marked (cond (empty || leb (v .operators) k) AsAsked (markFor (frequencyIn high low v p block k)))
   unfolding marksFor levelsFor frequencyIn
   sounding-mark k t true e = rw e (all-as-asked k)
@@ -49,7 +53,7 @@ module _ (pairs high low : List Float) (v : Voice) (p : VoiceParameters) (block 
       few : v .operators ≤ 6
       few = count-at-most-6 (v .operators) (state-fits v t .count)
 
-      go : (b : Bool) → leb (v .operators) k ≡ b → getD (levelsFor pairs high low v p n .marks) k (marked AsAsked)
+      go : (b : Bool) → leb (v .operators) k ≡ b → getD (levelsFor pairs high low v q n .marks) k (marked AsAsked)
           ≡ marked (cond b AsAsked (markFor (frequencyIn high low v p block k)))
       go true l = mark-behind _ _ _ _ _ _ (v .operators) k (leb-true (v .operators) k l)
       go false l = let z = leb-false (v .operators) k l in mark-of _ _ _ _ _ _ (v .operators) k (omega arith) few
@@ -58,10 +62,10 @@ module _ (pairs high low : List Float) (v : Voice) (p : VoiceParameters) (block 
   pub block-mark : (k : ℕ)
       → getD (renderAnswer pairs high low v p block .marks) k (marked AsAsked) ≡ marked (markIn high low v p block k)
   unfolding renderAnswer sounded markIn untold refused
-  block-mark k = go (stateFits v) (blockFits (length block)) (parametersFit p) (v .dirty) refl refl
+  block-mark k = go (stateFits v) (blockFits (length block)) (parametersFitFor v p) (v .dirty) refl refl
     where
       go : (state size fit dirty : Bool) → stateFits v ≡ state → blockFits (length block) ≡ size
-          → getD (answerBy pairs high low v p block state size fit dirty .marks) k (marked AsAsked)
+          → getD (answerBy pairs high low v q block state size fit dirty .marks) k (marked AsAsked)
           ≡ marked
           (cond (not (state && size && fit) || dirty || eqb (length block) 0 || leb (v .operators) k) AsAsked
           (markFor (frequencyIn high low v p block k)))
@@ -75,13 +79,13 @@ module _ (pairs high low : List Float) (v : Voice) (p : VoiceParameters) (block 
   -- and there are six
   pub six-marks : length (renderAnswer pairs high low v p block .marks) ≡ 6
   unfolding renderAnswer sounded marksFor levelsFor allAsAsked
-  six-marks = go (stateFits v) (blockFits (length block)) (parametersFit p) (v .dirty)
+  six-marks = go (stateFits v) (blockFits (length block)) (parametersFitFor v p) (v .dirty)
     where
-      told : (empty : Bool) → length (cond empty allAsAsked (levelsFor pairs high low v p n .marks)) ≡ 6
+      told : (empty : Bool) → length (cond empty allAsAsked (levelsFor pairs high low v q n .marks)) ≡ 6
       told true = refl
       told false = marks-length _ _ _ _ _ _ (v .operators)
 
-      go : (state size fit dirty : Bool) → length (answerBy pairs high low v p block state size fit dirty .marks) ≡ 6
+      go : (state size fit dirty : Bool) → length (answerBy pairs high low v q block state size fit dirty .marks) ≡ 6
       go true true true false = told (eqb n 0)
       go true true true true = refl
       go true true false dirty = refl

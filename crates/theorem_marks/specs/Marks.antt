@@ -12,12 +12,12 @@ use Rattle.voice_levels.specs.Levels.{frequencyOf, noTuned}
 use Rattle.voice.specs.declared.Voice.{Voice}
 use Rattle.voice.specs.Answers.{stateFits}
 use Rattle.voice_render.specs.declared.VoiceParameters.{VoiceParameters}
-use Rattle.voice_render.specs.Block.{begun}
-use Rattle.voice_render.specs.Answers.{blockFits, parametersFit}
+use Rattle.voice_render.specs.Block.{playedBy, begun}
+use Rattle.voice_render.specs.Answers.{blockFits, parametersFitFor}
 
 -- refused, with 9, 8 or 7
 unfoldable pub refused : Voice → VoiceParameters → List Float → Bool
-refused v p block = not (stateFits v && blockFits (length block) && parametersFit p)
+refused v p block = not (stateFits v && blockFits (length block) && parametersFitFor v p)
 
 -- refused, blank or empty: such a block says as asked of every operator
 unfoldable pub untold : Voice → VoiceParameters → List Float → Bool
@@ -26,7 +26,9 @@ untold v p block = refused v p block || v .dirty || eqb (length block) 0
 module _ (high low : List Float) (v : Voice) (p : VoiceParameters) (block : List Float) where
   -- the frequency that an operator has in a block, in turns a sample
   unfoldable pub frequencyIn : ℕ → Float
-  frequencyIn k = frequencyOf (begun high low v p (length block / 4) .scene) (getD (v .ratios) k noTuned)
+  frequencyIn k =
+      let scene = begun high low v (playedBy v p) (length block / 4) .scene in
+      frequencyOf scene (getD (v .ratios) k noTuned)
 
   -- the mark that a block has for operator k: its frequency's. The two that a voice of four lacks are as asked
   unfoldable pub markIn : ℕ → Mark

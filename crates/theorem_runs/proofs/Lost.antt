@@ -13,6 +13,7 @@ use Rattle.lfo.proofs.Calls as lfoLaws
 use Rattle.voice.specs.declared.Voice.{Voice}
 use Rattle.voice.specs.Voice.{noVoice}
 use Rattle.voice.specs.Answers.{stateFits, initAnswer, setPatchAnswer, takePatchAnswer, patchAnswer}
+use Rattle.voice.specs.Answers.{setTransposingAnswer}
 use Rattle.voice.proofs.Kept.{refused-init, no-voice-refused}
 use Rattle.voice_render.specs.Answers.{setupAnswer, renderAnswer}
 use Rattle.theorem_runs.specs.VoiceCalls as voice
@@ -30,14 +31,17 @@ module _ (v : Voice) where
   refusal-is (voice.SetPatch p table) = (refl, refl)
   refusal-is voice.TakePatch = (refl, refl)
   refusal-is voice.GetPatch = (refl, refl)
+  refusal-is (voice.SetTransposing on) = (refl, refl)
   refusal-is voice.Setup = (refl, refl)
   refusal-is (voice.Render pairs high low p block) = (refl, refl)
 
   call-refused : stateFits v ≡ false → (call : voice.Call) → voice.answerTo call v ≡ voice.refusalOf call v
-  unfolding voice.answerTo voice.refusalOf setPatchAnswer takePatchAnswer patchAnswer setupAnswer renderAnswer
+  unfolding voice.answerTo voice.refusalOf setPatchAnswer takePatchAnswer patchAnswer setTransposingAnswer setupAnswer
+      renderAnswer
   call-refused e (voice.SetPatch p table) = rw e refl
   call-refused e voice.TakePatch = rw e refl
   call-refused e voice.GetPatch = rw e refl
+  call-refused e (voice.SetTransposing on) = rw e refl
   call-refused e voice.Setup = rw e refl
   call-refused e (voice.Render pairs high low p block) = rw e refl
 

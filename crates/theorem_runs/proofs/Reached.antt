@@ -17,6 +17,7 @@ use Rattle.patch_limits.specs.Ranges.{sampleRateFits}
 use Rattle.voice.specs.declared.Voice.{Voice}
 use Rattle.voice.specs.Answers.{stateFits, initAnswer}
 use Rattle.voice.proofs.Kept.{Kept, init-fits, init-keeps, set-patch-keeps, take-patch-keeps, patch-no-nine}
+use Rattle.voice.proofs.Kept.{set-transposing-keeps}
 use Rattle.voice_render.proofs.Kept.{setup-keeps, render-keeps}
 use Rattle.theorem_runs.specs.VoiceCalls as voice
 use Rattle.theorem_runs.specs.Run.{Call, Start, OfVoice, StartLfo, OfLfo, State, Step, stored, stepOf}
@@ -71,6 +72,7 @@ unfolding voice.answerTo
 voice-keeps v t (voice.SetPatch p table) = set-patch-keeps v t p table
 voice-keeps v t voice.TakePatch = take-patch-keeps v t
 voice-keeps v t voice.GetPatch = (t, patch-no-nine v t)
+voice-keeps v t (voice.SetTransposing on) = set-transposing-keeps v t on
 voice-keeps v t voice.Setup = setup-keeps v t lutPitchRatioHigh lutPitchRatioLow
 voice-keeps v t (voice.Render pairs high low p block) = render-keeps v t pairs high low p block
 

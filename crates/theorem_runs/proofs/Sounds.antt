@@ -44,11 +44,12 @@ use Rattle.voice_setup.specs.Setup.{headroomOf, operatorSetUp, setUpTo}
 use Rattle.voice_setup.specs.Setup as setup
 use Rattle.voice_levels.specs.Levels.{timingFor, followed, noteFrequency, frequencyBy, brightnessOf, scalingOf, amplitudeOf, leveled, leveledTo}
 use Rattle.voice_levels.specs.Levels as levels
+use Rattle.voice_note.specs.Note.{playedNote}
 use Rattle.patch_limits.specs.Ranges.{sampleRateFits}
 use Rattle.voice.specs.Answers.{patchSound, stateFits, initAnswer, loaded, setPatchAnswer}
 use Rattle.voice.specs.Voice.{voiceWith, freshVoice, withPatch}
-use Rattle.voice_render.specs.Answers.{blockFits, parametersFit, renderAnswer}
-use Rattle.voice_render.specs.Block.{noteOn, struck, begun, entering, after, levelsFor, played}
+use Rattle.voice_render.specs.Answers.{blockFits, parametersFit, parametersFitFor, renderAnswer}
+use Rattle.voice_render.specs.Block.{playedBy, noteOn, struck, begun, entering, after, levelsFor, played}
 use Rattle.voice_render.specs.Block as block
 use Rattle.voice_render.specs.Heard.{output}
 use Rattle.voice_render.specs.Setup.{withSetup, setUp}
@@ -90,8 +91,8 @@ unfolding neg add sub mul div lt eq le ne isNan ofInt toUnsigned toSigned ofBits
     split joined
     headroomOf operatorSetUp setUpTo setup.putAt
     timingFor followed noteFrequency frequencyBy brightnessOf scalingOf amplitudeOf leveled leveledTo allStages levels.putAt
-    sampleRateFits patchSound stateFits blockFits parametersFit initAnswer loaded setPatchAnswer renderAnswer
-    noteOn struck begun entering after levelsFor played block.sounded
+    sampleRateFits patchSound stateFits blockFits parametersFit parametersFitFor initAnswer loaded setPatchAnswer
+    renderAnswer playedNote playedBy noteOn struck begun entering after levelsFor played block.sounded
     voiceWith freshVoice withPatch withSetup setUp
     output
     answerTo stepOf run

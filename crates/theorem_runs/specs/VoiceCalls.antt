@@ -1,6 +1,6 @@
 -- A call of an entry of a voice but its start, as data, with what the entry answers. Definitions only.
 use Prim.Native.Nat.{ℕ}
-use mathlib.Core.Bool.{false}
+use mathlib.Core.Bool.{Bool, false}
 use mathlib.Core.List.{List}
 use lib.Ieee.{Float}
 use Rattle.units.specs.Tables.{lutPitchRatioHigh, lutPitchRatioLow}
@@ -10,6 +10,7 @@ use Rattle.voice.specs.declared.Prepared.{Prepared}
 use Rattle.voice.specs.declared.Loaded.{Loaded}
 use Rattle.voice.specs.declared.Stored.{Stored}
 use Rattle.voice.specs.Answers.{prepared, notLoaded, noPatch, setPatchAnswer, takePatchAnswer, patchAnswer}
+use Rattle.voice.specs.Answers.{setTransposingAnswer}
 use Rattle.voice_render.specs.declared.Readied.{Readied}
 use Rattle.voice_render.specs.declared.VoiceParameters.{VoiceParameters}
 use Rattle.voice_render.specs.Answers.{readied, setupAnswer, Answered, unsounded, renderAnswer}
@@ -20,6 +21,7 @@ pub data Call : Type 0 where
   SetPatch : Patch → List ℕ → Call
   TakePatch : Call
   GetPatch : Call
+  SetTransposing : Bool → Call
   Setup : Call
   Render : List Float → List Float → List Float → VoiceParameters → List Float → Call
 
@@ -50,6 +52,7 @@ unfoldable pub answerTo : Call → Voice → Answer
 answerTo (SetPatch p table) v = Loads (setPatchAnswer v p table)
 answerTo TakePatch v = Prepares (takePatchAnswer v)
 answerTo GetPatch v = Tells (patchAnswer v)
+answerTo (SetTransposing on) v = Prepares (setTransposingAnswer v on)
 answerTo Setup v = Readies (setupAnswer lutPitchRatioHigh lutPitchRatioLow v)
 answerTo (Render pairs high low p block) v = Renders (renderAnswer pairs high low v p block)
 
@@ -58,5 +61,6 @@ unfoldable pub refusalOf : Call → Voice → Answer
 refusalOf (SetPatch p table) v = Loads (notLoaded 9 v)
 refusalOf TakePatch v = Prepares (prepared 9 v)
 refusalOf GetPatch v = Tells (noPatch 9)
+refusalOf (SetTransposing on) v = Prepares (prepared 9 v)
 refusalOf Setup v = Readies (readied 9 false v)
 refusalOf (Render pairs high low p block) v = Renders (unsounded 9 v block)

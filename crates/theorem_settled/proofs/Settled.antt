@@ -70,6 +70,7 @@ use Rattle.voice.proofs.init as voice-init
 use Rattle.voice.proofs.set_patch as voice-set-patch
 use Rattle.voice.proofs.take_patch as voice-take-patch
 use Rattle.voice.proofs.patch as voice-patch
+use Rattle.voice.proofs.set_transposing as voice-set-transposing
 use Rattle.voice_render.proofs.setup as voice-setup
 use Rattle.identity.proofs.identify as identity-identify
 use Rattle.bank.proofs.part as bank-part
@@ -299,6 +300,10 @@ module _ {M : Type 1} (𝓤 : URA M) (H : Heap 𝓤) (A : Atoms 𝓤) (mem : Mem
 
   pub voice-patch-settled : Settled 𝓤 voice-patch.ended (voice-patch.clauses 𝓤 H A mem run)
   voice-patch-settled κs a g z y ws vs = equal 𝓤 _ z y refl
+
+  pub voice-set-transposing-settled : Settled 𝓤 voice-set-transposing.ended
+      (voice-set-transposing.clauses 𝓤 H A mem run)
+  voice-set-transposing-settled κs a g z y ws vs = equal 𝓤 _ z y refl
 
   pub voice-setup-settled : Settled 𝓤 voice-setup.ended (voice-setup.clauses 𝓤 H A mem run)
   voice-setup-settled κs a g z y ws vs = equal 𝓤 _ z y refl

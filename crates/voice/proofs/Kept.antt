@@ -1,5 +1,5 @@
--- Number 9 of a voice: a fresh voice is not refused, and neither setting a patch nor taking it out makes a voice that
--- is not refused one that is; what a refused start hands out is refused. Assumes nothing.
+-- Number 9 of a voice: a fresh voice is not refused, and neither setting a patch, taking it out nor setting the switch
+-- makes a voice that is not refused one that is; what a refused start hands out is refused. Assumes nothing.
 use mathlib.Core.Path.{_≡_, refl, sym, subst}
 use mathlib.Core.Bool.{Bool, true, false, cond, not, _&&_}
 use mathlib.Core.List.{List, [], _∷_}
@@ -26,9 +26,9 @@ use Rattle.envelope_inner.specs.Envelope.{initialised, isStage, allStages}
 use Rattle.voice.specs.declared.Voice.{Voice}
 use Rattle.voice.specs.declared.Prepared.{Prepared}
 use Rattle.voice.specs.declared.Stored.{Stored}
-use Rattle.voice.specs.Voice.{voiceWith, freshVoice, noVoice, withPatch, withoutPatch}
+use Rattle.voice.specs.Voice.{voiceWith, freshVoice, noVoice, withPatch, withoutPatch, withSwitch}
 use Rattle.voice.specs.Answers.{patchSound, stateFits, prepared, initAnswer, loaded, notLoaded, setPatchAnswer}
-use Rattle.voice.specs.Answers.{takePatchAnswer, noPatch, patchAnswer}
+use Rattle.voice.specs.Answers.{takePatchAnswer, setTransposingAnswer, noPatch, patchAnswer}
 use Rattle.voice.proofs.States.{Fits, state-fits}
 
 -- a number that is no 9
@@ -197,6 +197,30 @@ module _ (v : Voice) (t : T (stateFits v)) where
   pub take-patch-keeps : Kept (takePatchAnswer v .voice) (takePatchAnswer v .number)
   unfolding takePatchAnswer
   take-patch-keeps = rw (is-true (stateFits v) t) (without-patch-fits, tt)
+
+  -- a voice without a patch is dirty already
+  with-switch-fits : (on : Bool) → T (stateFits (withSwitch v on))
+  unfolding withSwitch
+  with-switch-fits on =
+      let f = state-fits v t in
+      fits-state _ (record {
+        count = f .count;
+        stages = f .stages;
+        pitch = f .pitch;
+        patched = go (v .«has_patch») (f .patched);
+      })
+    where
+      sound : Bool
+      sound = patchSound (v .operators) (v .patch) (v .row) (v .plan)
+
+      go : (b : Bool) → T (cond b sound (v .dirty)) → T (cond b sound true)
+      go true s = s
+      go false s = tt
+
+  pub set-transposing-keeps : (on : Bool)
+      → Kept (setTransposingAnswer v on .voice) (setTransposingAnswer v on .number)
+  unfolding setTransposingAnswer
+  set-transposing-keeps on = rw (is-true (stateFits v) t) (with-switch-fits on, tt)
 
   pub patch-no-nine : NoNine (patchAnswer v .number)
   unfolding patchAnswer

@@ -3,3 +3,4 @@ pub mod Tests
 pub mod States
 pub mod Patches
 pub mod Kept
+pub mod Switch

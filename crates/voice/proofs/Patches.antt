@@ -1,7 +1,7 @@
--- What setting a patch, taking it out and asking for it compute step by step is what the definitions say, over plain
--- variables. Assumes nothing.
+-- What setting a patch, taking it out, asking for it and setting the switch compute step by step is what the
+-- definitions say, over plain variables. Assumes nothing.
 use mathlib.Core.Path.{_≡_, refl}
-use mathlib.Core.Bool.{true, false}
+use mathlib.Core.Bool.{Bool, true, false}
 use mathlib.Core.List.{List, [], _∷_}
 use Prim.Native.Nat.{ℕ}
 use borrow.Author.Tests.{eq-eqb, ne-eqb}
@@ -14,9 +14,9 @@ use Rattle.algorithms.specs.Plan.{noPlan}
 use Rattle.algorithms.specs.Table.{six, compiled}
 use Rattle.voice.specs.declared.Voice.{Voice}
 use Rattle.voice.specs.declared.Loaded.{Loaded}
-use Rattle.voice.specs.Voice.{withPatch, withoutPatch}
+use Rattle.voice.specs.Voice.{withPatch, withoutPatch, withSwitch}
 use Rattle.voice.specs.Answers.{stateFits, loaded, notLoaded, setPatchAnswer, prepared, takePatchAnswer}
-use Rattle.voice.specs.Answers.{patchAnswer}
+use Rattle.voice.specs.Answers.{patchAnswer, setTransposingAnswer}
 
 module _ (v : Voice) (p : Patch) (c : Compiled) where
   pub load-refused : (c .number ≡ 0 → ⊥) → record { number = c .number; at = c .at; voice = v } ≡ loaded v p c
@@ -51,6 +51,15 @@ module _ (v : Voice) where
       → prepared 0 w ≡ takePatchAnswer v
   unfolding takePatchAnswer withoutPatch six
   take-patch-on h ep el ew = rw (h, ew, ep, el) refl
+
+  pub transposing-9 : (on : Bool) → stateFits v ≡ false → prepared 9 v ≡ setTransposingAnswer v on
+  unfolding setTransposingAnswer
+  transposing-9 on h = rw h refl
+
+  pub transposing-on : (on : Bool) → stateFits v ≡ true → {w : Voice} → w ≡ withSwitch v on
+      → prepared 0 w ≡ setTransposingAnswer v on
+  unfolding setTransposingAnswer
+  transposing-on on h e = rw (h, e) refl
 
   pub patch-9 : stateFits v ≡ false → {p : Patch} → p ≡ zeroPatch
       → record { number = 9; has = false; patch = p } ≡ patchAnswer v

@@ -17,7 +17,7 @@ use Rattle.voice.specs.declared.Voice.{Voice}
 use Rattle.voice.specs.declared.Prepared.{Prepared}
 use Rattle.voice.specs.declared.Loaded.{Loaded}
 use Rattle.voice.specs.declared.Stored.{Stored}
-use Rattle.voice.specs.Voice.{freshVoice, noVoice, withPatch, withoutPatch}
+use Rattle.voice.specs.Voice.{freshVoice, noVoice, withPatch, withoutPatch, withSwitch}
 
 -- ---- what is refused
 
@@ -64,6 +64,10 @@ setPatchAnswer v p table =
 -- 9 only
 unfoldable pub takePatchAnswer : Voice → Prepared
 takePatchAnswer v = cond (stateFits v) (prepared 0 (withoutPatch v)) (prepared 9 v)
+
+-- 9 only
+unfoldable pub setTransposingAnswer : Voice → Bool → Prepared
+setTransposingAnswer v on = cond (stateFits v) (prepared 0 (withSwitch v on)) (prepared 9 v)
 
 abbrev pub noPatch : ℕ → Stored
 noPatch number = record { number = number; has = false; patch = zeroPatch }

@@ -22,7 +22,8 @@ use Rattle.voice.specs.declared.Voice.{Voice}
 abbrev pub sixOf : {A : Type 0} → A → List A
 sixOf a = a ∷ a ∷ a ∷ a ∷ a ∷ a ∷ []
 
--- a voice that has played nothing: dirty, without a patch, note 48, velocity 10; envelopes are scaled from 44,100 Hz
+-- a voice that has played nothing: dirty, without a patch, its switch off, note 48, velocity 10; envelopes are scaled
+-- from 44,100 Hz
 unfoldable pub voiceWith : ℕ → Float → Float → Float → Voice
 voiceWith operators sampleRate oneHz a0 =
     let e = initialised (decimal 44100 0 ⊗ oneHz) in
@@ -45,6 +46,7 @@ voiceWith operators sampleRate oneHz a0 =
       row = six [];
       plan = noPlan;
       dirty = true;
+      transposing = false;
     }
 
 -- a fresh voice: 1 Hz and the A of 55 Hz in turns a sample
@@ -96,9 +98,9 @@ tuningsOf v = record { ratios = v .ratios; headroom = v .«level_headroom» }
 abbrev pub contentsOf : Voice → Contents
 contentsOf v = record { has = v .«has_patch»; patch = v .patch; row = v .row; plan = v .plan }
 
--- the same voice with these parts, dirty or clean
-abbrev pub rebuilt : Voice → Moving → Tunings → Contents → Bool → Voice
-rebuilt v m t c isDirty = record {
+-- the same voice with these parts, dirty or clean, its switch on or off
+abbrev pub rebuilt : Voice → Moving → Tunings → Contents → Bool → Bool → Voice
+rebuilt v m t c isDirty on = record {
   operators = v .operators;
   «sample_rate» = v .«sample_rate»;
   «one_hz» = v .«one_hz»;
@@ -117,13 +119,19 @@ rebuilt v m t c isDirty = record {
   row = c .row;
   plan = c .plan;
   dirty = isDirty;
+  transposing = on;
 }
 
 -- the same voice, dirty, with another patch, row and plan or with none
 unfoldable pub withPatch : Voice → Bool → Patch → List ℕ → Plan → Voice
 withPatch v has p row plan =
     rebuilt v (movingOf v) (tuningsOf v) (record { has = has; patch = p; row = row; plan = plan }) true
+    (v .transposing)
 
 -- without a patch: the stored patch, row and plan are zero
 unfoldable pub withoutPatch : Voice → Voice
 withoutPatch v = withPatch v false zeroPatch (six []) noPlan
+
+-- the same voice, dirty, with its switch on or off
+unfoldable pub withSwitch : Voice → Bool → Voice
+withSwitch v on = rebuilt v (movingOf v) (tuningsOf v) (contentsOf v) true on

@@ -1,11 +1,12 @@
 // A DX7 voice between blocks, after voice.rs: its state goes in and comes back by value. An entry refuses in document
-// 01's order (starting 2, 5; setting a patch 9, 6, 2, 3, 4; taking it out or asking for it 9), and its promise names
-// the answer for every input: a refusal hands back the voice as it came. `voice_render` has its setup and its blocks.
+// 01's order (starting 2, 5; setting a patch 9, 6, 2, 3, 4; taking it out, asking for it or setting the switch 9), and
+// its promise names the answer for every input: a refusal hands back the voice as it came. `voice_render` has its setup
+// and its blocks.
 ghost use mathlib.Core.Path.{_≡_};
 ghost use Rattle.envelope_inner.specs.Envelope.{allStages};
-ghost use Rattle.voice.specs.Voice.{voiceWith, withPatch};
+ghost use Rattle.voice.specs.Voice.{voiceWith, withPatch, withSwitch};
 ghost use Rattle.voice.specs.Answers.{patchSound, stateFits, initAnswer, loaded, setPatchAnswer, takePatchAnswer};
-ghost use Rattle.voice.specs.Answers.{patchAnswer};
+ghost use Rattle.voice.specs.Answers.{patchAnswer, setTransposingAnswer};
 use algorithms::Compiled;
 use algorithms::Plan;
 use dx_units_inner::Ratio;
@@ -34,9 +35,11 @@ pub struct Voice {
     pub row: [u8; 6],
     pub plan: Plan,
     pub dirty: bool,
+    // The Rust has no such switch: its voice never looks at transpose.
+    pub transposing: bool,
 }
 
-// What starting and taking a patch out give.
+// What starting, taking a patch out and setting the switch give.
 pub struct Prepared {
     pub number: u8,
     pub voice: Voice,
@@ -91,6 +94,7 @@ fn voice_with(operators: usize, sample_rate: f32, one_hz: f32, a0: f32) -> Voice
         row: [0, 0, 0, 0, 0, 0],
         plan,
         dirty: true,
+        transposing: false,
     }
 }
 
@@ -237,6 +241,33 @@ pub fn take_patch(v: Voice) -> Prepared
     Prepared {
         number: 0,
         voice: with_patch(v, false, patch, [0, 0, 0, 0, 0, 0], plan),
+    }
+}
+
+// The voice with its switch on or off, which the next block sets up.
+fn with_switch(v: Voice, on: bool) -> Voice
+    ensures { λ r. ⌜ r ≡ withSwitch v on ⌝ }
+{
+    let mut w = v;
+    w.transposing = on;
+    w.dirty = true;
+    w
+}
+
+// Whether the patch's transpose moves the notes that blocks play. The voice is dirty then, also where the switch stays
+// as it was.
+pub fn set_transposing(v: Voice, on: bool) -> Prepared
+    ensures { λ r. ⌜ r ≡ setTransposingAnswer v on ⌝ }
+{
+    if !state_fits(v) {
+        return Prepared {
+            number: 9,
+            voice: v,
+        };
+    }
+    Prepared {
+        number: 0,
+        voice: with_switch(v, on),
     }
 }
 

@@ -18,8 +18,8 @@ use Rattle.voice.specs.Answers.{stateFits}
 use Rattle.voice.proofs.States.{stored, clean-has}
 use Rattle.voice_render.specs.declared.VoiceParameters.{VoiceParameters}
 use Rattle.voice_render.specs.Setup.{setUp}
-use Rattle.voice_render.specs.Block.{begun, entering, after, levelsFor, marksFor, played, sounded}
-use Rattle.voice_render.specs.Answers.{blockFits, parametersFit, Answered, unsounded, sounding, renderAnswer}
+use Rattle.voice_render.specs.Block.{playedBy, begun, entering, after, levelsFor, marksFor, played, sounded}
+use Rattle.voice_render.specs.Answers.{blockFits, parametersFitFor, Answered, unsounded, sounding, renderAnswer}
 use Rattle.voice_render.specs.Heard.{output, heardOf}
 use Rattle.voice_render.proofs.Blocks.{block-whole}
 
@@ -43,7 +43,7 @@ unfolding sounded played
 sounded-length pairs high low v p block size =
     ran-length pairs (v .plan) _ _ (v .patch .feedback) _ block (block-whole (length block) (subst T (sym size) tt))
 
--- a block's answer, for each way that its four tests go
+-- a block's answer, for each way that its four tests go, where p is what it plays
 abbrev pub answerBy : List Float → List Float → List Float → Voice → VoiceParameters → List Float
     → Bool → Bool → Bool → Bool → Answered
 answerBy pairs high low v p block state size fit dirty =
@@ -60,12 +60,12 @@ pub rendered-length : (pairs high low : List Float) (v : Voice) (p : VoiceParame
     → length (renderAnswer pairs high low v p block .block) ≡ length block
 unfolding renderAnswer
 rendered-length pairs high low v p block =
-    go (stateFits v) (blockFits (length block)) (parametersFit p) (v .dirty) refl
+    go (stateFits v) (blockFits (length block)) (parametersFitFor v p) (v .dirty) refl
   where
     go : (state size fit dirty : Bool) → blockFits (length block) ≡ size
-        → length (answerBy pairs high low v p block state size fit dirty .block) ≡ length block
+        → length (answerBy pairs high low v (playedBy v p) block state size fit dirty .block) ≡ length block
     go true true true true s = refl
-    go true true true false s = sounded-length pairs high low v p block s
+    go true true true false s = sounded-length pairs high low v (playedBy v p) block s
     go true true false dirty s = refl
     go true false fit dirty s = refl
     go false size fit dirty s = refl
@@ -95,16 +95,22 @@ module _ (pairs high low : List Float) (v : Voice) (p : VoiceParameters) (one ot
       (ap (after v p (begun high low v p (n / 4)) levels) (same .0))
       (output-fits n _ long size ∙ same .1 ∙ sym (output-fits n _ (long' ∙ sym l) size)))
 
-  -- any block: refused or blank, it stays as it was
-  pub rendered-alike : heardOf (renderAnswer pairs high low v p one) ≡ heardOf (renderAnswer pairs high low v p other)
-  unfolding renderAnswer
-  rendered-alike = rw (← l) (go (stateFits v) (blockFits (length one)) (parametersFit p) (v .dirty) refl refl refl)
-    where
-      go : (state size fit dirty : Bool) → stateFits v ≡ state → blockFits (length one) ≡ size → v .dirty ≡ dirty
-          → heardOf (answerBy pairs high low v p one state size fit dirty)
-          ≡ heardOf (answerBy pairs high low v p other state size fit dirty)
-      go true true true true f s d = same-answer 0 allAsAsked refl o
-      go true true true false f s d = sounded-alike f s d
-      go true true false dirty f s d = same-answer 7 allAsAsked refl o
-      go true false fit dirty f s d = same-answer 8 allAsAsked refl o
-      go false size fit dirty f s d = same-answer 9 allAsAsked refl o
+  -- any block of what is played: refused or blank, it stays as it was
+  answered-alike : (state size fit dirty : Bool) → stateFits v ≡ state → blockFits (length one) ≡ size
+      → v .dirty ≡ dirty
+      → heardOf (answerBy pairs high low v p one state size fit dirty)
+      ≡ heardOf (answerBy pairs high low v p other state size fit dirty)
+  answered-alike true true true true f s d = same-answer 0 allAsAsked refl o
+  answered-alike true true true false f s d = sounded-alike f s d
+  answered-alike true true false dirty f s d = same-answer 7 allAsAsked refl o
+  answered-alike true false fit dirty f s d = same-answer 8 allAsAsked refl o
+  answered-alike false size fit dirty f s d = same-answer 9 allAsAsked refl o
+
+-- any block, its switch on or off
+pub rendered-alike : (pairs high low : List Float) (v : Voice) (p : VoiceParameters) (one other : List Float)
+    → length one ≡ length other → output one ≡ output other
+    → heardOf (renderAnswer pairs high low v p one) ≡ heardOf (renderAnswer pairs high low v p other)
+unfolding renderAnswer
+rendered-alike pairs high low v p one other l o =
+    rw (← l) (answered-alike pairs high low v (playedBy v p) one other l o (stateFits v) (blockFits (length one))
+    (parametersFitFor v p) (v .dirty) refl refl refl)

@@ -38,10 +38,10 @@ use Rattle.voice_render.specs.declared.Begun.{Begun}
 use Rattle.voice_render.specs.declared.Readied.{Readied}
 use Rattle.voice_render.specs.declared.Rendered.{Rendered}
 use Rattle.voice_render.specs.Setup.{withSetup, setUp}
-use Rattle.voice_render.specs.Block.{noteOn, struck, begun, restartedAt, allRestarted, entering, levelsFor}
-use Rattle.voice_render.specs.Block.{marksFor, after, played, sounded}
-use Rattle.voice_render.specs.Answers.{blockFits, parametersFit, Answered, answeredBy, unsounded, sounding}
-use Rattle.voice_render.specs.Answers.{renderAnswer}
+use Rattle.voice_render.specs.Block.{playedBy, noteOn, struck, begun, restartedAt, allRestarted, entering}
+use Rattle.voice_render.specs.Block.{levelsFor, marksFor, after, played, sounded}
+use Rattle.voice_render.specs.Answers.{blockFits, parametersFitFor, Answered, answeredBy}
+use Rattle.voice_render.specs.Answers.{unsounded, sounding, renderAnswer}
 use Rattle.voice_render.specs.Answers.{readied, setupAnswer}
 
 -- ---- what is accepted
@@ -206,22 +206,25 @@ module _ (pairs high low : List Float) (v : Voice) (p : VoiceParameters) (block 
     render-8 h = rw (state, h) refl
 
     module _ (size : blockFits (length block) ≡ true) where
-      pub render-7 : parametersFit p ≡ false → unsounded 7 v block ≡ renderAnswer pairs high low v p block
+      pub render-7 : parametersFitFor v p ≡ false → unsounded 7 v block ≡ renderAnswer pairs high low v p block
       unfolding renderAnswer
       render-7 h = rw (state, size, h) refl
 
-      module _ (fits : parametersFit p ≡ true) where
+      module _ (fits : parametersFitFor v p ≡ true) where
         either : Bool → Answered
-        either b = cond b (unsounded 0 (setUp high low v) block) (sounding (sounded pairs high low v p block))
+        either b =
+            cond b (unsounded 0 (setUp high low v) block) (sounding (sounded pairs high low v (playedBy v p) block))
 
         pub render-blank : v .dirty ≡ true → {w : Voice} → w ≡ setUp high low v → unsounded 0 w block ≡ renderAnswer pairs high low v p block
         unfolding renderAnswer either
         render-blank h e = rw (state, size, fits, e) (sym (ap either h))
 
-        pub render-sound : v .dirty ≡ false → {a : Answered} → a ≡ sounding (sounded pairs high low v p block)
-            → a ≡ renderAnswer pairs high low v p block
+        pub render-sound : v .dirty ≡ false → {q : VoiceParameters} {a : Answered} → q ≡ playedBy v p
+            → a ≡ sounding (sounded pairs high low v q block) → a ≡ renderAnswer pairs high low v p block
         unfolding renderAnswer either
-        render-sound h e = rw (state, size, fits) (e ∙ sym (ap either h))
+        render-sound h eq e =
+            let here = rw eq at e in
+            rw (state, size, fits) (here ∙ sym (ap either h))
 
 -- with the tables made for one block
 pub with-tables : (v : Voice) (p : VoiceParameters) (block : List Float) {a : Answered} {pairs high low : List Float}

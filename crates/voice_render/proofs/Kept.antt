@@ -20,8 +20,8 @@ use Rattle.voice.proofs.Kept.{Kept, fits-state}
 use Rattle.voice_render.specs.declared.Readied.{Readied}
 use Rattle.voice_render.specs.declared.VoiceParameters.{VoiceParameters}
 use Rattle.voice_render.specs.Setup.{withSetup, setUp}
-use Rattle.voice_render.specs.Block.{begun, after, levelsFor, sounded}
-use Rattle.voice_render.specs.Answers.{blockFits, parametersFit, readied, setupAnswer, Answered, renderAnswer}
+use Rattle.voice_render.specs.Block.{playedBy, begun, after, levelsFor, sounded}
+use Rattle.voice_render.specs.Answers.{blockFits, parametersFitFor, readied, setupAnswer, Answered, renderAnswer}
 use Rattle.voice_render.proofs.Alike.{answerBy}
 
 set-up-stages : (high low : List Float) (ops : List Operator) (k : ℕ) (s : Setup)
@@ -92,13 +92,13 @@ module _ (v : Voice) (t : T (stateFits v)) where
       → Kept (renderAnswer pairs high low v p block .voice) (renderAnswer pairs high low v p block .number)
   unfolding renderAnswer
   render-keeps pairs high low p block =
-      rw (is-true (stateFits v) t) (go (blockFits (length block)) (parametersFit p) (v .dirty))
+      rw (is-true (stateFits v) t) (go (blockFits (length block)) (parametersFitFor v p) (v .dirty))
     where
       answer : Bool → Bool → Bool → Answered
-      answer = answerBy pairs high low v p block true
+      answer = answerBy pairs high low v (playedBy v p) block true
 
       go : (a b c : Bool) → Kept (answer a b c .voice) (answer a b c .number)
       go true true true = (set-up-fits high low, tt)
-      go true true false = (sounded-fits pairs high low p block, tt)
+      go true true false = (sounded-fits pairs high low (playedBy v p) block, tt)
       go true false c = (t, tt)
       go false b c = (t, tt)

@@ -2,3 +2,4 @@
 pub mod Blocks
 pub mod Alike
 pub mod Kept
+pub mod Switch

@@ -16,7 +16,7 @@ use Rattle.voice_render.specs.declared.VoiceParameters.{VoiceParameters}
 use Rattle.voice_render.specs.declared.Readied.{Readied}
 use Rattle.voice_render.specs.declared.Rendered.{Rendered}
 use Rattle.voice_render.specs.Setup.{setUp}
-use Rattle.voice_render.specs.Block.{Sounded, sounded}
+use Rattle.voice_render.specs.Block.{playedBy, Sounded, sounded}
 
 -- ---- what is refused
 
@@ -33,6 +33,10 @@ parametersFit p =
     && unitFits (p .«envelope_control»)
     && between (minusDecimal 4 0) (decimal 4 0) (p .«pitch_mod»)
     && unitFits (p .«amp_mod»)
+
+-- else 7 in a block of this voice: the parameters first, then the note that it plays
+unfoldable pub parametersFitFor : Voice → VoiceParameters → Bool
+parametersFitFor v p = parametersFit p && noteFits (playedBy v p .note)
 
 -- ---- the answers
 
@@ -67,8 +71,8 @@ unfoldable pub renderAnswer : List Float → List Float → List Float → Voice
 renderAnswer pairs high low v p block =
     cond (stateFits v)
     (cond (blockFits (length block))
-    (cond (parametersFit p)
-    (cond (v .dirty) (unsounded 0 (setUp high low v) block) (sounding (sounded pairs high low v p block)))
+    (cond (parametersFitFor v p)
+    (cond (v .dirty) (unsounded 0 (setUp high low v) block) (sounding (sounded pairs high low v (playedBy v p) block)))
     (unsounded 7 v block))
     (unsounded 8 v block))
     (unsounded 9 v block)

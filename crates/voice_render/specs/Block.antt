@@ -10,6 +10,7 @@ use Rattle.numbers.specs.F32.{_⊕_}
 use Rattle.dx_units_inner.specs.Units.{normalizedVelocity}
 use Rattle.dx_units_step.specs.declared.Marked.{Marked}
 use Rattle.operator.specs.declared.Operator.{Operator}
+use Rattle.voice_note.specs.Note.{playedNote}
 use Rattle.voice_block.specs.declared.Operators.{Operators}
 use Rattle.voice_block.specs.Calls.{noOperator, Ran, ran}
 use Rattle.voice_levels.specs.declared.Levels.{Levels}
@@ -19,6 +20,24 @@ use Rattle.voice.specs.Voice.{Moving, tuningsOf, contentsOf, rebuilt}
 use Rattle.voice_render.specs.declared.VoiceParameters.{VoiceParameters}
 use Rattle.voice_render.specs.declared.Struck.{Struck}
 use Rattle.voice_render.specs.declared.Begun.{Begun}
+
+-- the same parameters with another note
+abbrev pub withNote : VoiceParameters → Float → VoiceParameters
+withNote p note = record {
+  sustain = p .sustain;
+  gate = p .gate;
+  note = note;
+  velocity = p .velocity;
+  brightness = p .brightness;
+  «envelope_control» = p .«envelope_control»;
+  «pitch_mod» = p .«pitch_mod»;
+  «amp_mod» = p .«amp_mod»;
+}
+
+-- what a block plays: the parameters it is given, with the note that the voice plays in the note's place. A voice
+-- transposes where its switch is on, unless it has no patch
+unfoldable pub playedBy : Voice → VoiceParameters → VoiceParameters
+playedBy v p = withNote p (playedNote (v .transposing && v .«has_patch») (v .patch .transpose) (p .note))
 
 -- a note-on: the gate opens
 unfoldable pub noteOn : Voice → VoiceParameters → Bool
@@ -80,7 +99,7 @@ after v p b l os =
       feedback = os .«feedback_state»;
     }
     in
-    rebuilt v m (tuningsOf v) (contentsOf v) (v .dirty)
+    rebuilt v m (tuningsOf v) (contentsOf v) (v .dirty) (v .transposing)
 
 -- the voice, a mark for each operator and all four quarters after a sounding block
 pub record Sounded : Type 0 where

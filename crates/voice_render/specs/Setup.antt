@@ -23,7 +23,7 @@ withSetup v pitch s =
       feedback = v .«feedback_state»;
     }
     in
-    rebuilt v m (record { ratios = s .ratios; headroom = s .«level_headroom» }) (contentsOf v) false
+    rebuilt v m (record { ratios = s .ratios; headroom = s .«level_headroom» }) (contentsOf v) false (v .transposing)
 
 -- a dirty voice with a patch is set up; one without stays as it is
 unfoldable pub setUp : List Float → List Float → Voice → Voice

@@ -1,7 +1,7 @@
 // A block of a DX7 voice, after voice.rs's setup and render: the voice goes in and comes back by value. A block refuses
 // in document 01's order (9, 8, 7), a setup 9, and the promise names the answer and the whole block for every input: a
 // refusal hands back the voice as it came and touches no buffer. A sounding block marks each operator whose pitch was
-// cut off.
+// cut off. A voice whose switch is on plays every note as far away as its patch's transpose says.
 ghost use mathlib.Core.Path.{_≡_};
 ghost use mathlib.Core.Bool.{false, cond};
 ghost use Prim.Native.Nat.{_≤_};
@@ -12,8 +12,8 @@ ghost use Rattle.units.specs.Tables.{lutPitchRatioHigh, lutPitchRatioLow};
 ghost use Rattle.voice_levels.specs.Levels.{allAsAsked};
 ghost use Rattle.voice.specs.Answers.{stateFits};
 ghost use Rattle.voice_render.specs.Setup.{withSetup, setUp};
-ghost use Rattle.voice_render.specs.Block.{noteOn, struck, begun, restarted, entering, after, sounded};
-ghost use Rattle.voice_render.specs.Answers.{blockFits, parametersFit, setupAnswer};
+ghost use Rattle.voice_render.specs.Block.{playedBy, noteOn, struck, begun, restarted, entering, after, sounded};
+ghost use Rattle.voice_render.specs.Answers.{blockFits, parametersFit, parametersFitFor, setupAnswer};
 ghost use Rattle.voice_render.specs.Answers.{answeredBy, sounding, renderAnswer};
 use dx_units_step::Marked;
 use envelope_inner::Envelope;
@@ -69,7 +69,7 @@ fn block_fits(size: usize) -> bool
     (size % 4 == 0) & (size <= 4096)
 }
 
-// Number 7.
+// Number 7 of the parameters that are given.
 fn parameters_fit(p: VoiceParameters) -> bool
     ensures { λ r. ⌜ r ≡ parametersFit p ⌝ }
 {
@@ -79,6 +79,24 @@ fn parameters_fit(p: VoiceParameters) -> bool
         & patch_limits::unit_fits(p.envelope_control)
         & patch_limits::between(-4.0, 4.0, p.pitch_mod)
         & patch_limits::unit_fits(p.amp_mod)
+}
+
+// What a block plays: the note that takes the given one's place, and the rest as it is given.
+fn played_by(v: Voice, p: VoiceParameters) -> VoiceParameters
+    ensures { λ r. ⌜ r ≡ playedBy v p ⌝ }
+{
+    let patch = v.patch;
+    let mut q = p;
+    q.note = voice_note::played_note(v.transposing & v.has_patch, patch.transpose, p.note);
+    q
+}
+
+// Number 7 in a block of this voice: the parameters first, then the note that it plays.
+fn parameters_fit_for(v: Voice, p: VoiceParameters) -> bool
+    ensures { λ r. ⌜ r ≡ parametersFitFor v p ⌝ }
+{
+    let q = played_by(v, p);
+    parameters_fit(p) & patch_limits::note_fits(q.note)
 }
 
 fn with_setup(v: Voice, pitch_envelope: Envelope, s: Setup) -> Voice
@@ -338,13 +356,14 @@ pub fn render_with(
     if !block_fits(block.len()) {
         return unheard(8, v);
     }
-    if !parameters_fit(p) {
+    if !parameters_fit_for(v, p) {
         return unheard(7, v);
     }
     if v.dirty {
         return unheard(0, set_up(high, low, v));
     }
-    render_sounding(v, p, pairs, high, low, block)
+    let q = played_by(v, p);
+    render_sounding(v, q, pairs, high, low, block)
 }
 
 // A block: the output and scratch 1 to 3, a quarter each.

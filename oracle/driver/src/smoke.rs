@@ -2,7 +2,7 @@
 
 use crate::entry::registers::Registers;
 use crate::entry::rust::{mark, put_row, step, with_quarters, with_table};
-use crate::groups::{pieces, single};
+use crate::groups::{pieces, single, transpose};
 use crate::script::generate::Generator;
 use crate::table;
 use crate::wire::answer::Answer;
@@ -26,7 +26,7 @@ use std::hint::black_box;
 type Check = (&'static str, fn() -> bool);
 
 pub fn smoke() -> bool {
-    let checks: [Check; 13] = [
+    let checks: [Check; 14] = [
         ("entries take what is drawn for them", entries_fit),
         ("states read as they are written", forms_fit),
         ("conversions", conversions),
@@ -37,6 +37,7 @@ pub fn smoke() -> bool {
         ("an LFO and two envelopes", lfo_and_envelopes),
         ("two voices' blocks", voices),
         ("each mark in drawn blocks", marks),
+        ("a voice that transposes", transposed),
         ("a patch by hand in both forms", single::agrees_with_hand),
         ("a dump by hand in pieces", pieces::agrees_with_hand),
         ("dumps in pieces and whole", || pieces::agrees_with_whole(500)),
@@ -167,6 +168,28 @@ fn marks() -> bool {
         }
     }
     met[1] && met[3] && met[5] && met[7]
+}
+
+/// With transpose 36 a block at note 60 is the one at note 72 with the switch off, but for the switch; with transpose
+/// 12 note 11 is refused.
+fn transposed() -> bool {
+    let rendered = |on: u8, shift: u8, note: f32| {
+        let parameters = [note, 0.8, 0.5, 0.5, 0.0, 0.0].map(f32::to_le_bytes).concat();
+        let block = [&[0, 1], &parameters[..], &[96, 0, 0, 0, 1, 0, 0, 0]].concat();
+        let start = [&6u32.to_le_bytes()[..], &48_000f32.to_le_bytes()].concat();
+        let patch = [&transpose::patch(shift)[..], &[0]].concat();
+        let (mut registers, mut answer) = (Registers::new(), Answer::default());
+        for (number, call) in [(0x80, &start), (0x82, &patch), (0x8a, &vec![on]), (0x88, &block), (0x88, &block)] {
+            answer = Answer::default();
+            let entry = table::by_number()[number].expect("an entry of the voice");
+            (entry.answer)(&mut Arguments(call), &mut registers, &mut answer);
+        }
+        answer.bytes
+    };
+    let (mut up, plain, low) = (rendered(1, 36, 60.0), rendered(0, 36, 72.0), rendered(1, 12, 11.0));
+    let on = up.pop() == Some(1);
+    up.push(0);
+    on && up == plain && plain[0] == 0 && plain != rendered(0, 36, 60.0) && low[0] == 7
 }
 
 /// A voice of four with a row put in, and one of six with a built-in row.

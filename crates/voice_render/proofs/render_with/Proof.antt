@@ -33,8 +33,8 @@ returns-2 c =
     (render-8 _ _ _ _ _ _ (accepted (at-if1 .before .state-fits .ensures) (at-if1 .if1 .left))
     (refused (at-if2 .before .block-fits .ensures) (at-if2 .if2 .taken)))
 
-parameters-fit-requires : tie.Need-parameters-fit-requires
-parameters-fit-requires c κs = search needs
+parameters-fit-for-requires : tie.Need-parameters-fit-for-requires
+parameters-fit-for-requires c κs = search needs
 
 unheard-requires-3 : tie.Need-unheard-requires-3
 unheard-requires-3 c κs = search needs
@@ -47,7 +47,7 @@ returns-3 c =
     not-sounded (c .unheard3 .ensures)
     (render-7 _ _ _ _ _ _ (accepted (at-if1 .before .state-fits .ensures) (at-if1 .if1 .left))
     (accepted (at-if2 .before .block-fits .ensures) (at-if2 .if2 .left))
-    (refused (at-if3 .before .parameters-fit .ensures) (at-if3 .if3 .taken)))
+    (refused (at-if3 .before .parameters-fit-for .ensures) (at-if3 .if3 .taken)))
 
 set-up-requires : tie.Need-set-up-requires
 set-up-requires c κs =
@@ -67,33 +67,41 @@ returns-4 c =
     not-sounded (c .unheard4 .ensures)
     (render-blank _ _ _ _ _ _ (accepted (at-if1 .before .state-fits .ensures) (at-if1 .if1 .left))
     (accepted (at-if2 .before .block-fits .ensures) (at-if2 .if2 .left))
-    (accepted (at-if3 .before .parameters-fit .ensures) (at-if3 .if3 .left)) (at-if4 .if4 .taken)
+    (accepted (at-if3 .before .parameters-fit-for .ensures) (at-if3 .if3 .left)) (at-if4 .if4 .taken)
     (c .before .set-up .ensures))
+
+played-by-requires : tie.Need-played-by-requires
+played-by-requires c κs = search needs
 
 render-sounding-requires : tie.Need-render-sounding-requires
 render-sounding-requires c κs =
-    let at-if2 = c .before .before .before .before in
+    let at-if4 = c .before .before in
+    let at-if2 = at-if4 .before .before .before in
     let at-block-fits = at-if2 .before in
     let at-if1 = at-block-fits .before in
-    let at-state-fits = at-if1 .before in
-    (subst T (sym (accepted (at-state-fits .state-fits .ensures) (at-if1 .if1 .left))) tt, c .before .if4 .left, subst T (sym (accepted (at-block-fits .block-fits .ensures) (at-if2 .if2 .left))) tt)
+    let at-state-fits = at-if1 .before in (
+      subst T (sym (accepted (at-state-fits .state-fits .ensures) (at-if1 .if1 .left))) tt,
+      at-if4 .if4 .left,
+      subst T (sym (accepted (at-block-fits .block-fits .ensures) (at-if2 .if2 .left))) tt,
+    )
 
 same-length : tie.Need-same-length
 same-length c = search needs
 
 returns-5 : tie.Need-returns-5
 returns-5 c =
-    let at-if4 = c .before .before .before .before in
+    let at-played-by = c .before .before .before .before in
+    let at-if4 = at-played-by .before in
     let at-if3 = at-if4 .before in
-    let at-parameters-fit = at-if3 .before in
-    let at-if2 = at-parameters-fit .before in
+    let at-parameters-fit-for = at-if3 .before in
+    let at-if2 = at-parameters-fit-for .before in
     let at-block-fits = at-if2 .before in
     let at-if1 = at-block-fits .before in
     let at-state-fits = at-if1 .before in
     render-sound _ _ _ _ _ _ (accepted (at-state-fits .state-fits .ensures) (at-if1 .if1 .left))
     (accepted (at-block-fits .block-fits .ensures) (at-if2 .if2 .left))
-    (accepted (at-parameters-fit .parameters-fit .ensures) (at-if3 .if3 .left)) (at-if4 .if4 .left)
-    (c .before .before .render-sounding .ensures)
+    (accepted (at-parameters-fit-for .parameters-fit-for .ensures) (at-if3 .if3 .left)) (at-if4 .if4 .left)
+    (at-played-by .played-by .ensures) (c .before .before .render-sounding .ensures)
 
 pub render-with-spec : {M : Type 1} → statement M
 render-with-spec =
@@ -105,12 +113,13 @@ render-with-spec =
     block-fits-requires
     unheard-requires-2
     returns-2
-    parameters-fit-requires
+    parameters-fit-for-requires
     unheard-requires-3
     returns-3
     set-up-requires
     unheard-requires-4
     returns-4
+    played-by-requires
     render-sounding-requires
     same-length
     returns-5)

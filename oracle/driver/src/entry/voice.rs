@@ -1,5 +1,5 @@
-//! The voice between calls: what the Rust's voice has, and what it has no words for, the number of operators, the row
-//! and the plan.
+//! The voice between calls: what the Rust's voice has, and what it has no words for, the number of operators, the row,
+//! the plan and the switch.
 
 use crate::wire::answer::Answer;
 use crate::wire::arguments::Arguments;
@@ -10,7 +10,7 @@ use plaits::fm::patch::Patch;
 use plaits::fm::voice::Voice;
 
 /// The bytes of a voice in an answer.
-pub const SIZE: usize = 666;
+pub const SIZE: usize = 667;
 
 /// A voice as an answer has it: arrays of six, and what stands behind the number of operators stays as it is.
 #[derive(Clone)]
@@ -34,6 +34,8 @@ pub struct State {
     pub row: [u8; 6],
     pub plan: [u8; 31],
     pub dirty: bool,
+    /// Whether notes are moved as the patch's transpose says.
+    pub transposing: bool,
 }
 
 impl State {
@@ -58,6 +60,7 @@ impl State {
             row: [0; 6],
             plan: [0; 31],
             dirty: false,
+            transposing: false,
         }
     }
 
@@ -101,6 +104,7 @@ impl State {
             call[4] = add as u8;
         }
         to.bool("dirty", &mut self.dirty);
+        to.bool("transposing", &mut self.transposing);
     }
 
     /// Its bytes in an answer.

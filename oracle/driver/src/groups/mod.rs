@@ -9,6 +9,7 @@ pub mod numbers;
 pub mod patch;
 pub mod pieces;
 pub mod single;
+pub mod transpose;
 pub mod units;
 pub mod voice;
 

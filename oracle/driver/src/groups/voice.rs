@@ -1,7 +1,7 @@
 //! The voice. The Rust's voice renders, with the row that was set put into its table. What it has no words for (the
-//! number of operators, the row, the plan) is kept beside it, and every refusal is decided here from the rules
-//! (docs/RULES.md): a block gets 9, 8, 7, a patch 9, 6, 2, 3, 4, starting 2, 5, and taking the patch out, setting up
-//! and asking for the patch 9.
+//! number of operators, the row, the plan, the switch) is kept beside it, and every refusal is decided here from the
+//! rules (docs/RULES.md): a block gets 9, 8, 7, a patch 9, 6, 2, 3, 4, starting 2, 5, and taking the patch out, setting
+//! up, setting the switch and asking for the patch 9. A voice that transposes is the Rust's, given the shifted note.
 
 use crate::entry::draw::Draw;
 use crate::entry::registers::Registers;
@@ -10,6 +10,7 @@ use crate::entry::voice::{SIZE, State};
 use crate::entry::{Entry, entry};
 use crate::groups::algorithms::{self, counted, planned, tabled};
 use crate::groups::patch::{self, check};
+use crate::groups::transpose;
 use crate::wire::answer::{Answer, NAN};
 use crate::wire::arguments::Arguments;
 use crate::wire::forms;
@@ -20,7 +21,7 @@ use plaits::fm::patch::Patch;
 use plaits::fm::voice::{Voice, VoiceParameters};
 use plaits::utils::units::semitones_to_ratio_safe;
 
-const STATE: &str = "u8 number, the voice, 666 bytes";
+const STATE: &str = "u8 number, the voice, 667 bytes";
 const LOADED: &str = "u8 number, u8 operator named, the voice";
 const WHOLE: &str = "u8 number, 6 × u8 marks, floats the block, the voice";
 const DIGEST: &str = "u8 number, 6 × u8 marks, u64 digest of the block and the voice";
@@ -175,6 +176,22 @@ pub const ENTRIES: &[Entry] = &[
     .drawn(seeds)
     .with_state()
     .weight(64),
+    entry(0x8a, "voice_transposing", &[Bool], STATE, |given, registers, answer| {
+        let on = given.bool();
+        let number = state(registers);
+        if number == 0 {
+            (registers.voice.transposing, registers.voice.dirty) = (on, true);
+        }
+        answer.name("number").u8(number);
+        registers.voice.form(answer);
+    })
+    .drawn(|draw| {
+        let on = draw.one_of(&[0, 0, 1, 1, 1, 1, 2, 255]);
+        draw.u8(on);
+    })
+    .every(transpose::CALLS, transpose::every)
+    .with_state()
+    .weight(3),
     entry(0x8b, "voice_setup", &[], "u8 number, bool it was dirty, the voice", |_, registers, answer| {
         let (number, dirty) = set_up(registers);
         answer.name("number").u8(number);
@@ -386,18 +403,26 @@ fn marked<const N: usize>(voice: &mut Voice<'_, N, 32>, asked: &VoiceParameters,
     marks
 }
 
+/// The note that a voice plays: with its switch on and a patch, the note plus the whole number transpose minus 24.
+fn played(voice: &State, note: f32) -> f32 {
+    if voice.transposing && voice.has_patch { note + (voice.patch.transpose as i32 - 24) as f32 } else { note }
+}
+
 /// Renders a block, or says why not.
 fn render(registers: &mut Registers, asked: &VoiceParameters, block: &mut [f32]) -> Told {
     let units = [asked.velocity, asked.brightness, asked.envelope_control, asked.amp_mod];
+    let note = played(&registers.voice, asked.note);
     let number = match state(registers) {
         0 if block.len() % 4 != 0 || block.len() > 4096 => 8,
         0 if !(0.0..=127.0).contains(&asked.note) || !(-4.0..=4.0).contains(&asked.pitch_mod) => 7,
         0 if !units.iter().all(|x| (0.0..=1.0).contains(x)) => 7,
+        0 if !(0.0..=127.0).contains(&note) => 7,
         number => number,
     };
     let mut marks = [0; 6];
     if number == 0 {
-        on_rust!(registers, |voice, _| marks = marked(voice, asked, block));
+        let given = VoiceParameters { note, ..asked.clone() };
+        on_rust!(registers, |voice, _| marks = marked(voice, &given, block));
     }
     Told { number, marks }
 }
@@ -473,6 +498,9 @@ fn packed(draw: &mut Draw, algorithm: u8) {
         bytes.iter_mut().for_each(|byte| *byte |= (draw.one_in(64) as u8) << 7);
     }
     bytes[110] = algorithm;
+    if draw.one_in(2) {
+        bytes[117] = draw.field(48);
+    }
     bytes.into_iter().for_each(|byte| draw.u8(byte));
 }
 
@@ -490,7 +518,7 @@ fn bends(draw: &mut Draw) {
         6 => (628 + draw.below(6), draw.any_u8()),
         7 => (634 + draw.below(31), draw.below(8) as u8),
         8 => (634 + draw.below(31), draw.any_u8()),
-        _ => (665, draw.below(2) as u8),
+        _ => (665 + draw.below(2), draw.below(2) as u8),
     };
     let (way, odd) = (draw.below(3) as u8, place == 11 || place == 15);
     draw.u32(place);
@@ -523,10 +551,14 @@ fn parameters_drawn(draw: &mut Draw) {
     draw.u8(gate);
     let odd = draw.one_in(12);
     let whole = draw.below(128) as f32;
-    if draw.one_in(2) {
-        draw.f32(whole)
-    } else {
-        parameter(draw, 0.0, 127.0, odd)
+    match draw.below(8) {
+        0..4 => draw.f32(whole),
+        // a shifted note may end its range there
+        4 => {
+            let note = draw.near(whole);
+            draw.f32(note)
+        }
+        _ => parameter(draw, 0.0, 127.0, odd),
     }
     (0..3).for_each(|_| parameter(draw, 0.0, 1.0, odd));
     parameter(draw, -4.0, 4.0, odd);

@@ -1,0 +1,2 @@
+-- the switch off and on
+pub mod Transpose

@@ -1,0 +1,2 @@
+-- how far transposes move a note
+pub mod Shifts

@@ -1,0 +1,2 @@
+-- the definitions that the contracts cite
+pub mod Note
