@@ -1,5 +1,4 @@
 -- `voice_render::parameters_fit_for` meets its contract. Assumes nothing.
-use mathlib.Core.Path.{refl}
 use borrow.Author.Needs.{needs}
 use Rattle.voice_render.specs.Answers.{parametersFitFor}
 use Rattle.voice_render.proofs.parameters_fit_for.Statement.{statement}
@@ -17,7 +16,7 @@ note-fits-requires c κs = search needs
 returns : tie.Need-returns
 unfolding parametersFitFor
 returns c =
-    rw (c .note-fits .ensures, c .before .parameters-fit .ensures, c .before .before .played-by .ensures) refl
+    simp (c .note-fits .ensures, c .before .parameters-fit .ensures, c .before .before .played-by .ensures)
 
 pub parameters-fit-for-spec : {M : Type 1} → statement M
 parameters-fit-for-spec =
