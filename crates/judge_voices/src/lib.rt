@@ -1,6 +1,6 @@
 // The judge's entries 80 to 8f (hex, docs/ORACLE.md): the crates `voice` and `voice_render`. An answer stands from
-// place 5 on. A voice is its fields in the struct's order, 667 bytes: a ratio is its kind (0 to the note, 1 to 1 Hz) and
-// a float.
+// place 5 on. A voice is its fields in the struct's order, 667 bytes: a ratio is its kind (0 to the note, 1 to 1 Hz)
+// and a float.
 ghost use Prim.Native.Nat.{_≤_};
 use algorithms::Plan;
 use dx_units_inner::Ratio;

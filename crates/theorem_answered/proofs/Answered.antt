@@ -75,8 +75,8 @@ render-answered pairs high low v p block t size fit =
     rw (is-true (stateFits v) (t .fits), size, asked, fit) (go (v .dirty))
   where
     go : (b : Bool)
-        → cond b (unsounded 0 (setUp high low v) block) (sounding (sounded pairs high low v (playedBy v p) block)) .number
-        ≡ 0
+        → cond b (unsounded 0 (setUp high low v) block) (sounding (sounded pairs high low v (playedBy v p) block))
+        .number ≡ 0
     go true = refl
     go false = refl
 
@@ -117,7 +117,10 @@ module _ (pairs high low : List Float) (note : Float) (key : KeyFits note) where
   block-keeps : (gate : Bool) (s : Playing) → Playable s → Playable (blockPlayed lutSine pairs high low note gate s)
   unfolding blockPlayed
   block-keeps gate s t =
-      record { voice = render-plain pairs high low (s .voice) _ silence (t .voice); lfo = step-tame (s .lfo) (s .random) (t .lfo) .1 }
+      record {
+        voice = render-plain pairs high low (s .voice) _ silence (t .voice);
+        lfo = step-tame (s .lfo) (s .random) (t .lfo) .1;
+      }
 
   -- ---- so many blocks
 
@@ -133,7 +136,8 @@ module _ (pairs high low : List Float) (note : Float) (key : KeyFits note) where
 
   -- ---- a note
 
-  pub note-answered : (r : Ready) (hash : ℕ) → Plain (r .voice) → Tame (r .lfo) → noteAnswered lutSine pairs high low r note hash ≡ true
+  pub note-answered : (r : Ready) (hash : ℕ) → Plain (r .voice) → Tame (r .lfo)
+      → noteAnswered lutSine pairs high low r note hash ≡ true
   unfolding noteAnswered
   note-answered r hash v l =
       let s : Playing = record { voice = setUpFor pairs high low (r .voice) note; lfo = r .lfo; random = 0x21; hash = hash } in
@@ -161,7 +165,8 @@ unfolding notesAnswered decimal le lt
 notes-answered p e = together (together (note _ refl _) (note _ refl _)) (note _ refl _)
   where
     note : (n : Float) → KeyFits n → (hash : ℕ) → noteAnswered lutSine sinePairs lutPitchRatioHigh lutPitchRatioLow (readied p) n hash ≡ true
-    note n k hash = note-answered sinePairs lutPitchRatioHigh lutPitchRatioLow n k (readied p) hash (ready-plain p) (ready-tame p e)
+    note n k hash =
+        note-answered sinePairs lutPitchRatioHigh lutPitchRatioLow n k (readied p) hash (ready-plain p) (ready-tame p e)
 
 -- ---- what comes before the notes
 
