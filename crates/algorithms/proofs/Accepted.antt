@@ -14,16 +14,16 @@ use lib.ListN.{length, get_or, set, take, drop, length-set, length-take}
 use lib.Seq.{length-take-le, drop-drop, get_or-set_same, get_or-set_other}
 use borrow.Author.Tests.{eqb-true, eqb-false}
 use Rattle.algorithms.specs.Opcode.{source, adding}
-use Rattle.algorithms.specs.Chain.{Modulation, originFrom, modulation, known, renders, callLength, rendered}
+use Rattle.algorithms.specs.Chain.{Modulation, origin_from, modulation, known, renders, call_length, rendered}
 use Rattle.algorithms.specs.Chain.Modulation.{unmodulated, external, feedback, originless}
-use Rattle.algorithms.specs.Plan.{call_of, noCall, noPlan, reading, ready, unready, extended, refusal, planFrom}
+use Rattle.algorithms.specs.Plan.{call_of, no_call, no_plan, reading, ready, unready, extended, refusal, plan_from}
 use Rattle.algorithms.specs.Plan.{counted, planned}
 use Rattle.algorithms.specs.Accepted.{covered, Covering, In, Safe, Sound, Made}
 use Rattle.algorithms.specs.declared.Call.{Call}
 use Rattle.algorithms.specs.declared.Plan.{Plan}
 use Rattle.algorithms.specs.declared.Planned.{Planned}
-use Rattle.algorithms.proofs.Lengths.{cond-most, modulation-first, rendered-within}
-use Rattle.algorithms.proofs.Steps.{at_call, call-input, call-output, ready-before, counted-few}
+use Rattle.algorithms.proofs.Lengths.{cond_most, modulation_first, rendered_within}
+use Rattle.algorithms.proofs.Steps.{at_call, call_input, call_output, ready_before, counted_few}
 
 -- ---- a renderer's chain
 
@@ -39,9 +39,9 @@ record Fed (operators n j : ℕ) (add : Bool) : Type 0 where
   origin : j + 1 ≡ n
   chain : (n ≡ 1) ⊎ ((operators ≡ 6) × (n ≤ 3) × (add ≡ true))
 
-fed-known : (operators n j : ℕ) (add : Bool) → known operators n (feedback j) add ≡ true → Fed operators n j add
+fed_known : (operators n j : ℕ) (add : Bool) → known operators n (feedback j) add ≡ true → Fed operators n j add
 unfolding known
-fed-known operators n j add e =
+fed_known operators n j add e =
     ⊎_elim (λ z. single (both_equal n 1 j 0 z)) chain
     (or_cases (eqb n 1 && eqb j 0) (eqb operators 6 && (add && ((eqb n 3 && eqb j 2) || (eqb n 2 && eqb j 1)))) e)
   where
@@ -63,56 +63,56 @@ fed-known operators n j add e =
         (or_cases (eqb n 3 && eqb j 2) (eqb n 2 && eqb j 1) v.1)
 
 -- a feedback call's origin is its last operator
-pub origin-last : (operators n j : ℕ) (add : Bool) → known operators n (feedback j) add ≡ true → j + 1 ≡ n
-origin-last operators n j add e = (fed-known operators n j add e).origin
+pub origin_last : (operators n j : ℕ) (add : Bool) → known operators n (feedback j) add ≡ true → j + 1 ≡ n
+origin_last operators n j add e = (fed_known operators n j add e).origin
 
 -- a renderer is for one operator or has feedback
-known-cases : (operators n : ℕ) (m : Modulation) (add : Bool) → known operators n m add ≡ true
+known_cases : (operators n : ℕ) (m : Modulation) (add : Bool) → known operators n m add ≡ true
     → (n ≡ 1) ⊎ ((m ≡ feedback (n - 1)) × (operators ≡ 6) × (n ≤ 3) × (add ≡ true))
 unfolding known
-known-cases operators n unmodulated add e = inl (eqb-true n 1 e)
-known-cases operators n external add e = inl (eqb-true n 1 e)
-known-cases operators n (feedback j) add e =
-    let f = fed-known operators n j add e in
+known_cases operators n unmodulated add e = inl (eqb-true n 1 e)
+known_cases operators n external add e = inl (eqb-true n 1 e)
+known_cases operators n (feedback j) add e =
+    let f = fed_known operators n j add e in
     let o = f.origin in
     let l : j ≡ n - 1 = omega arith in
     ⊎_elim inl (λ z. inr (ap feedback l, z.0, z.1, z.2)) f.chain
-known-cases operators n originless add e = absurd (false≢true e)
+known_cases operators n originless add e = absurd (false≢true e)
 
 -- what has feedback has source 3
-fed-source : (o n j : ℕ) (os : List ℕ) → 1 ≤ n → modulation (take n (o ∷ os)) ≡ feedback j → source o ≡ 3
-fed-source o n j os h e = pick (eqb (source o) 0) (eqb (source o) 3) refl (sym (modulation-first o n os h) ∙ e)
+fed_source : (o n j : ℕ) (os : List ℕ) → 1 ≤ n → modulation (take n (o ∷ os)) ≡ feedback j → source o ≡ 3
+fed_source o n j os h e = pick (eqb (source o) 0) (eqb (source o) 3) refl (sym (modulation_first o n os h) ∙ e)
   where
     pick : (b d : Bool) → eqb (source o) 3 ≡ d
-        → cond b unmodulated (cond d (originFrom 0 originless (take n (o ∷ os))) external) ≡ feedback j → source o ≡ 3
+        → cond b unmodulated (cond d (origin_from 0 originless (take n (o ∷ os))) external) ≡ feedback j → source o ≡ 3
     pick true d f e = let z : ◌≡◌ {A = ℕ} 0 1 = cc in absurd (omega arith)
     pick false true f e = eqb-true (source o) 3 f
     pick false false f e = let z : ◌≡◌ {A = ℕ} 0 1 = cc in absurd (omega arith)
 
 -- a call with operators has a renderer
-renders-call : (operators : ℕ) (os : List ℕ) → (rendered operators os ≡ 0 → ⊥)
+renders_call : (operators : ℕ) (os : List ℕ) → (rendered operators os ≡ 0 → ⊥)
     → renders operators os (rendered operators os) ≡ true
 unfolding rendered
-renders-call operators os h = pick (renders operators os (callLength operators os)) refl h
+renders_call operators os h = pick (renders operators os (call_length operators os)) refl h
   where
-    pick : (b : Bool) → renders operators os (callLength operators os) ≡ b
-        → (cond b (callLength operators os) 0 ≡ 0 → ⊥)
-        → renders operators os (cond b (callLength operators os) 0) ≡ true
+    pick : (b : Bool) → renders operators os (call_length operators os) ≡ b
+        → (cond b (call_length operators os) 0 ≡ 0 → ⊥)
+        → renders operators os (cond b (call_length operators os) 0) ≡ true
     pick true e h = e
     pick false e h = absurd (h refl)
 
-call-sound : (operators first o : ℕ) (os : List ℕ) (c : Call) → c ≡ call_of first (rendered operators (o ∷ os)) (o ∷ os)
+call_sound : (operators first o : ℕ) (os : List ℕ) (c : Call) → c ≡ call_of first (rendered operators (o ∷ os)) (o ∷ os)
     → (rendered operators (o ∷ os) ≡ 0 → ⊥)
     → first + suc (length os) ≤ operators → Sound operators c
 unfolding call_of renders
-call-sound operators first o os c e h l =
+call_sound operators first o os c e h l =
     let n = rendered operators (o ∷ os) in
     record {
-      input = call-input first n (o ∷ os) c e;
-      output = call-output first n (o ∷ os) c e;
-      within = rw e (omega (arith, rendered-within operators o os));
-      chain = rw e (⊎_elim inl (λ x. inr (record { six = x.1; few = x.2; fed = fed-source o n (n - 1) os (omega arith) x.0; adds = x.3 }))
-          (known-cases operators n (modulation (take n (o ∷ os))) (adding (get_or (o ∷ os) (n - 1) 0)) (renders-call operators (o ∷ os) h)));
+      input = call_input first n (o ∷ os) c e;
+      output = call_output first n (o ∷ os) c e;
+      within = rw e (omega (arith, rendered_within operators o os));
+      chain = rw e (⊎_elim inl (λ x. inr (record { six = x.1; few = x.2; fed = fed_source o n (n - 1) os (omega arith) x.0; adds = x.3 }))
+          (known_cases operators n (modulation (take n (o ∷ os))) (adding (get_or (o ∷ os) (n - 1) 0)) (renders_call operators (o ∷ os) h)));
     }
 
 -- ---- the walk
@@ -127,13 +127,13 @@ pub record Good (operators first : ℕ) (t : List ℕ) (p : Plan) : Type 0 where
   pub fewer : p.count ≤ first
   pub covering : Covering p.calls p.count first
   pub safe : SafePlan p
-  pub sound : (k : ℕ) → k < p.count → Sound operators (get_or p.calls k noCall)
-  pub made : (k : ℕ) → k < p.count → Made operators t (get_or p.calls k noCall)
+  pub sound : (k : ℕ) → k < p.count → Sound operators (get_or p.calls k no_call)
+  pub made : (k : ℕ) → k < p.count → Made operators t (get_or p.calls k no_call)
 
 none_below : (P : ℕ → Type 0) (k : ℕ) → k < 0 → P k
 none_below P k h = absurd (omega arith)
 
-good_start : (operators : ℕ) (t : List ℕ) → Good operators 0 t noPlan
+good_start : (operators : ℕ) (t : List ℕ) → Good operators 0 t no_plan
 unfolding covered
 good_start operators t = record {
   slots = refl;
@@ -145,10 +145,10 @@ good_start operators t = record {
 }
 
 -- a call that passes reads and adds to ready buffers
-passes-safe : (r : ℕ → Bool) (c : Call) → unready r c ≡ false
+passes_safe : (r : ℕ → Bool) (c : Call) → unready r c ≡ false
     → (reading c ≡ true → r c.input ≡ true) × (c.add ≡ true → r c.output ≡ true)
 unfolding unready
-passes-safe r c e = (λ z. pick₁ (reading c) (r c.input) (c.add && not (r c.output)) z e, λ z. pick₂ (reading c && not (r c.input)) c.add (r c.output) z e)
+passes_safe r c e = (λ z. pick₁ (reading c) (r c.input) (c.add && not (r c.output)) z e, λ z. pick₂ (reading c && not (r c.input)) c.add (r c.output) z e)
   where
     pick₁ : (a b x : Bool) → a ≡ true → ((a && not b) || x) ≡ false → b ≡ true
     pick₁ true true x z e = refl
@@ -171,30 +171,30 @@ each_more P m f x k h = pick (dec_lt k m)
 
 module _ (cs : List Call) (m : ℕ) (c : Call) where
   -- the calls before a new one are as they were
-  kept : (k : ℕ) → k < m → get_or (set cs m c) k noCall ≡ get_or cs k noCall
-  kept k h = get_or-set_other cs m k c noCall (omega arith)
+  kept : (k : ℕ) → k < m → get_or (set cs m c) k no_call ≡ get_or cs k no_call
+  kept k h = get_or-set_other cs m k c no_call (omega arith)
 
-  covered-before : (k : ℕ) → k ≤ m → covered (set cs m c) k ≡ covered cs k
+  covered_before : (k : ℕ) → k ≤ m → covered (set cs m c) k ≡ covered cs k
   unfolding covered
-  covered-before zero h = refl
-  covered-before (suc k) h = rw (kept k h)
+  covered_before zero h = refl
+  covered_before (suc k) h = rw (kept k h)
 
-  safe-before : (k : ℕ) → k < m → Safe cs k → Safe (set cs m c) k
-  safe-before k h s = record {
-    reads = rw (kept k h, ready-before cs m k (get_or cs k noCall).input c (omega arith)) s.reads;
-    adds = rw (kept k h, ready-before cs m k (get_or cs k noCall).output c (omega arith)) s.adds;
+  safe_before : (k : ℕ) → k < m → Safe cs k → Safe (set cs m c) k
+  safe_before k h s = record {
+    reads = rw (kept k h, ready_before cs m k (get_or cs k no_call).input c (omega arith)) s.reads;
+    adds = rw (kept k h, ready_before cs m k (get_or cs k no_call).output c (omega arith)) s.adds;
   }
 
   module _ (l : m < length cs) where
-    new : get_or (set cs m c) m noCall ≡ c
-    new = get_or-set_same cs m c noCall l
+    new : get_or (set cs m c) m no_call ≡ c
+    new = get_or-set_same cs m c no_call l
 
-    safe-new : unready (ready cs m) c ≡ false → Safe (set cs m c) m
-    safe-new e =
-        let s = passes-safe (ready cs m) c e in
+    safe_new : unready (ready cs m) c ≡ false → Safe (set cs m c) m
+    safe_new e =
+        let s = passes_safe (ready cs m) c e in
         record {
-          reads = rw (new, ready-before cs m m c.input c (le_refl m)) s.0;
-          adds = rw (new, ready-before cs m m c.output c (le_refl m)) s.1;
+          reads = rw (new, ready_before cs m m c.input c (le_refl m)) s.0;
+          adds = rw (new, ready_before cs m m c.output c (le_refl m)) s.1;
         }
 
 -- one call more
@@ -213,26 +213,26 @@ good_more operators first n t p c h i ef en some sound made e g =
       slots = length-set cs m c ∙ g.slots;
       fewer = omega (arith, g.fewer);
       covering = record {
-        starts = each_more (λ k. (get_or ds k noCall).first ≡ covered ds k) m
-            (λ k z. rw (kept cs m c k z, covered-before cs m c k (omega arith)) (g.covering.starts k z))
-            (rw (x, covered-before cs m c m (le_refl m)) (ef ∙ sym g.covering.whole));
+        starts = each_more (λ k. (get_or ds k no_call).first ≡ covered ds k) m
+            (λ k z. rw (kept cs m c k z, covered_before cs m c k (omega arith)) (g.covering.starts k z))
+            (rw (x, covered_before cs m c m (le_refl m)) (ef ∙ sym g.covering.whole));
         some =
-            each_more (λ k. 1 ≤ (get_or ds k noCall).n) m (λ k z. rw (kept cs m c k z) (g.covering.some k z))
+            each_more (λ k. 1 ≤ (get_or ds k no_call).n) m (λ k z. rw (kept cs m c k z) (g.covering.some k z))
             (rw x (omega arith));
         whole = rw (add-one m, x, ef, en);
       };
-      safe = each_more (λ k. Safe ds k) m (λ k z. safe-before cs m c k z (g.safe k z)) (safe-new cs m c l e);
+      safe = each_more (λ k. Safe ds k) m (λ k z. safe_before cs m c k z (g.safe k z)) (safe_new cs m c l e);
       sound =
-          each_more (λ k. Sound operators (get_or ds k noCall)) m (λ k z. rw (kept cs m c k z) (g.sound k z))
+          each_more (λ k. Sound operators (get_or ds k no_call)) m (λ k z. rw (kept cs m c k z) (g.sound k z))
           (rw x sound);
       made =
-          each_more (λ k. Made operators t (get_or ds k noCall)) m (λ k z. rw (kept cs m c k z) (g.made k z))
+          each_more (λ k. Made operators t (get_or ds k no_call)) m (λ k z. rw (kept cs m c k z) (g.made k z))
           (rw x made);
     }
 
 -- what is good at a place is good at the same place
-good-at : (operators i j : ℕ) (t : List ℕ) (p : Plan) → i ≡ j → Good operators i t p → Good operators j t p
-good-at operators i j t p e g = rw (sym e) g
+good_at : (operators i j : ℕ) (t : List ℕ) (p : Plan) → i ≡ j → Good operators i t p → Good operators j t p
+good_at operators i j t p e g = rw (sym e) g
 
 positive : (n : ℕ) → eqb n 0 ≡ false → 1 ≤ n
 positive n e = let z = eqb-false n 0 e in omega arith
@@ -247,27 +247,27 @@ behind t first o os e =
     ap (λ (l : List ℕ). drop 1 l) e ∙ drop-drop 1 first t ∙ ap (λ (k : ℕ). drop k t) (add-one first)
 
 -- THE THEOREM along the row t, of which os is what is still to come
-walk-good : (operators last : ℕ) → operators ≤ 6 → last ≤ operators → (t os : List ℕ) (inside first : ℕ) (p : Plan)
+walk_good : (operators last : ℕ) → operators ≤ 6 → last ≤ operators → (t os : List ℕ) (inside first : ℕ) (p : Plan)
     → os ≡ drop first t → first + length os ≡ last → inside ≤ length os
     → Good operators (first + inside) t p
-    → Good operators (end last (planFrom operators inside first p os)) t (planFrom operators inside first p os).plan
-unfolding planFrom call_of
-walk-good operators last h m t [] inside first p d l i g = good-at operators (first + inside) last t p (omega arith) g
-walk-good operators last h m t (o ∷ os) (suc inside) first p d l i g =
-    walk-good operators last h m t os inside (suc first) p (behind t first o os d) (omega arith) (omega arith)
-    (good-at operators (first + suc inside) (suc first + inside) t p (omega arith) g)
-walk-good operators last h m t (o ∷ os) zero first p d l i g =
+    → Good operators (end last (plan_from operators inside first p os)) t (plan_from operators inside first p os).plan
+unfolding plan_from call_of
+walk_good operators last h m t [] inside first p d l i g = good_at operators (first + inside) last t p (omega arith) g
+walk_good operators last h m t (o ∷ os) (suc inside) first p d l i g =
+    walk_good operators last h m t os inside (suc first) p (behind t first o os d) (omega arith) (omega arith)
+    (good_at operators (first + suc inside) (suc first + inside) t p (omega arith) g)
+walk_good operators last h m t (o ∷ os) zero first p d l i g =
     let n = rendered operators (o ∷ os) in
     let c = call_of first n (o ∷ os) in
     let made : Made operators t c = ap (λ (r : List ℕ). call_of first (rendered operators r) r) d in
     at_call (λ q. Good operators (end last q) t q.plan) operators first p o os (good_start operators t)
     (good_start operators t)
-    (λ x y. walk-good operators last h m t os (n - 1) (suc first) (extended p c) (behind t first o os d) (omega arith)
-    (omega (arith, rendered-within operators o os))
-    (good-at operators (first + n) (suc first + (n - 1)) t (extended p c) (omega (arith, positive n x))
+    (λ x y. walk_good operators last h m t os (n - 1) (suc first) (extended p c) (behind t first o os d) (omega arith)
+    (omega (arith, rendered_within operators o os))
+    (good_at operators (first + n) (suc first + (n - 1)) t (extended p c) (omega (arith, positive n x))
     (good_more operators first n t p c h (omega arith) refl refl (positive n x)
-    (call-sound operators first o os c refl (eqb-false n 0 x) (omega arith)) made y
-    (good-at operators (first + 0) first t p (add-zero first) g))))
+    (call_sound operators first o os c refl (eqb-false n 0 x) (omega arith)) made y
+    (good_at operators (first + 0) first t p (add-zero first) g))))
 
 -- ---- the plan of a row, accepted or not, and however long the row is
 
@@ -275,82 +275,82 @@ module _ (operators : ℕ) (row : List ℕ) where
   abbrev t : List ℕ
   t = take operators row
 
-  planned-good : Good operators (end (length t) (planned operators row)) t (planned operators row).plan
+  planned_good : Good operators (end (length t) (planned operators row)) t (planned operators row).plan
   unfolding planned
-  planned-good = pick (counted operators) refl
+  planned_good = pick (counted operators) refl
     where
       pick : (b : Bool) → counted operators ≡ b
-          → Good operators (end (length t) (cond b (planFrom operators 0 0 noPlan t) (refusal 2 0))) t
-          (cond b (planFrom operators 0 0 noPlan t) (refusal 2 0)).plan
+          → Good operators (end (length t) (cond b (plan_from operators 0 0 no_plan t) (refusal 2 0))) t
+          (cond b (plan_from operators 0 0 no_plan t) (refusal 2 0)).plan
       pick true x =
-          walk-good operators _ (counted-few operators x) (omega (arith, length-take operators row))
-          t t 0 0 noPlan refl (omega arith) (omega arith) (good_start operators t)
+          walk_good operators _ (counted_few operators x) (omega (arith, length-take operators row))
+          t t 0 0 no_plan refl (omega arith) (omega arith) (good_start operators t)
       pick false x = good_start operators t
 
   -- no call reads or adds to a scratch buffer that no earlier call has set
-  pub planned-safe : SafePlan (planned operators row).plan
-  planned-safe = planned-good.safe
+  pub planned_safe : SafePlan (planned operators row).plan
+  planned_safe = planned_good.safe
 
   -- every call has a renderer, four buffers and operators of the row
-  pub planned-sound : (k : ℕ) → k < (planned operators row).plan.count
-      → Sound operators (get_or (planned operators row).plan.calls k noCall)
-  planned-sound = planned-good.sound
+  pub planned_sound : (k : ℕ) → k < (planned operators row).plan.count
+      → Sound operators (get_or (planned operators row).plan.calls k no_call)
+  planned_sound = planned_good.sound
 
   -- and takes the operators that are rendered together from its first one on
-  pub planned-made : (k : ℕ) → k < (planned operators row).plan.count
-      → Made operators t (get_or (planned operators row).plan.calls k noCall)
-  planned-made = planned-good.made
+  pub planned_made : (k : ℕ) → k < (planned operators row).plan.count
+      → Made operators t (get_or (planned operators row).plan.calls k no_call)
+  planned_made = planned_good.made
 
   -- and an operator or more
-  pub planned-some : (k : ℕ) → k < (planned operators row).plan.count
-      → 1 ≤ (get_or (planned operators row).plan.calls k noCall).n
-  planned-some = planned-good.covering.some
+  pub planned_some : (k : ℕ) → k < (planned operators row).plan.count
+      → 1 ≤ (get_or (planned operators row).plan.calls k no_call).n
+  planned_some = planned_good.covering.some
 
-  pub planned-few : (planned operators row).plan.count ≤ operators
-  planned-few = omega (arith, planned-good.fewer, length-take operators row, cond-most (eqb (planned operators row).number 0) (length (take operators row)) 0 (length (take operators row)) (omega arith) (omega arith))
+  pub planned_few : (planned operators row).plan.count ≤ operators
+  planned_few = omega (arith, planned_good.fewer, length-take operators row, cond_most (eqb (planned operators row).number 0) (length (take operators row)) 0 (length (take operators row)) (omega arith) (omega arith))
 
 -- ---- an accepted row
 
-pub accepted-six : (operators : ℕ) (row : List ℕ) → (planned operators row).number ≡ 0 → operators ≤ 6
+pub accepted_six : (operators : ℕ) (row : List ℕ) → (planned operators row).number ≡ 0 → operators ≤ 6
 unfolding planned
-accepted-six operators row e = pick (counted operators) refl e
+accepted_six operators row e = pick (counted operators) refl e
   where
     pick : (b : Bool) → counted operators ≡ b
-        → (cond b (planFrom operators 0 0 noPlan (take operators row)) (refusal 2 0)).number ≡ 0 → operators ≤ 6
-    pick true x e = counted-few operators x
+        → (cond b (plan_from operators 0 0 no_plan (take operators row)) (refusal 2 0)).number ≡ 0 → operators ≤ 6
+    pick true x e = counted_few operators x
     pick false x e = absurd (omega arith)
 
 -- the calls' spans cover the operators, in row order
-pub accepted-covering : (operators : ℕ) (row : List ℕ) → length row ≡ 6 → (planned operators row).number ≡ 0
+pub accepted_covering : (operators : ℕ) (row : List ℕ) → length row ≡ 6 → (planned operators row).number ≡ 0
     → Covering (planned operators row).plan.calls (planned operators row).plan.count operators
-accepted-covering operators row l e =
+accepted_covering operators row l e =
     subst (Covering (planned operators row).plan.calls (planned operators row).plan.count)
-    (rw e (length-take-le operators row (omega (arith, accepted-six operators row e))))
-    (planned-good operators row).covering
+    (rw e (length-take-le operators row (omega (arith, accepted_six operators row e))))
+    (planned_good operators row).covering
 
 -- ---- each operator is in exactly one call
 
 -- earlier calls end before later ones do
-covered-mono : (cs : List Call) (count operators : ℕ) → Covering cs count operators → (j k : ℕ) → j ≤ k → k ≤ count
+covered_mono : (cs : List Call) (count operators : ℕ) → Covering cs count operators → (j k : ℕ) → j ≤ k → k ≤ count
     → covered cs j ≤ covered cs k
 unfolding covered
-covered-mono cs count operators v j zero h i = let z : j ≡ 0 = omega arith in rw z (le_refl _)
-covered-mono cs count operators v j (suc k) h i =
-    pick (dec_lt k j) (λ x. covered-mono cs count operators v j k x (omega arith))
+covered_mono cs count operators v j zero h i = let z : j ≡ 0 = omega arith in rw z (le_refl _)
+covered_mono cs count operators v j (suc k) h i =
+    pick (dec_lt k j) (λ x. covered_mono cs count operators v j k x (omega arith))
   where
     pick : Dec (k < j) → (j ≤ k → covered cs j ≤ covered cs k) → covered cs j ≤ covered cs (suc k)
     pick (yes x) f = let z : j ≡ suc k = omega arith in rw z (le_refl _)
     pick (no x) f = omega (arith, f (omega arith), v.starts k i)
 
 -- no operator is in two calls
-pub in-one-call : (cs : List Call) (count operators : ℕ) → Covering cs count operators → (j k i : ℕ) → j < count
+pub in_one_call : (cs : List Call) (count operators : ℕ) → Covering cs count operators → (j k i : ℕ) → j < count
     → k < count → In cs j i → In cs k i → j ≡ k
 unfolding covered
-in-one-call cs count operators v j k i hj hk a b = pick (dec_lt j k) (dec_lt k j)
+in_one_call cs count operators v j k i hj hk a b = pick (dec_lt j k) (dec_lt k j)
   where
     apart : (j k : ℕ) → j < k → k < count → In cs j i → In cs k i → ⊥
     apart j k h l a b =
-        omega (arith, covered-mono cs count operators v (suc j) k h (omega arith), v.starts k l, a.to, b.from)
+        omega (arith, covered_mono cs count operators v (suc j) k h (omega arith), v.starts k l, a.to, b.from)
 
     pick : Dec (j < k) → Dec (k < j) → j ≡ k
     pick (yes x) d = absurd (apart j k x hk a b)
@@ -376,6 +376,6 @@ found_below cs count operators v (suc k) h i l =
     pick (no x) f = record { call = k; early = h; here = record { from = omega (arith, v.starts k h); to = l } }
 
 -- every operator is in a call
-pub in-a-call : (cs : List Call) (count operators : ℕ) → Covering cs count operators → (i : ℕ) → i < operators
+pub in_a_call : (cs : List Call) (count operators : ℕ) → Covering cs count operators → (i : ℕ) → i < operators
     → Found cs count i
-in-a-call cs count operators v i h = found_below cs count operators v count (le_refl count) i (rw v.whole h)
+in_a_call cs count operators v i h = found_below cs count operators v count (le_refl count) i (rw v.whole h)

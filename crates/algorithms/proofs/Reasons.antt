@@ -6,10 +6,10 @@ use Prim.Native.Nat.{ℕ, zero, suc, ◌-◌, ◌≤◌, ◌<◌}
 use native.Mathlib.Omega.{arith}
 use mathlib.Core.List.{List, [], ◌∷◌}
 use lib.ListN.{get_or, drop}
-use Rattle.algorithms.specs.Chain.{lastOperator, ends, grown, reused, chained, renders, callLength, rendered}
+use Rattle.algorithms.specs.Chain.{last_operator, ends, grown, reused, chained, renders, call_length, rendered}
 use Rattle.algorithms.specs.Plan.{reading, unready}
 use Rattle.algorithms.specs.declared.Call.{Call}
-use Rattle.algorithms.proofs.Lengths.{grown-some}
+use Rattle.algorithms.proofs.Lengths.{grown_some}
 
 -- ---- a chain grows to the first operator at which it ends
 
@@ -39,18 +39,18 @@ one_more o (suc g) os false h e f =
 -- at its last
 pub ends_there : (o : ℕ) (os : List ℕ)
     → ends (get_or (o ∷ os) (grown (o ∷ os) - 1) 0) (drop (grown (o ∷ os)) (o ∷ os)) ≡ true
-unfolding grown ends lastOperator
+unfolding grown ends last_operator
 ends_there o [] = refl
 ends_there o (p ∷ os) =
-    one_more o (grown (p ∷ os)) (p ∷ os) (ends o (p ∷ os)) (grown-some p os) refl (ends_there p os)
+    one_more o (grown (p ∷ os)) (p ∷ os) (ends o (p ∷ os)) (grown_some p os) refl (ends_there p os)
 
 -- ---- a call's length: the chain's, or 1 or 0 where the chain is reused or has no renderer
 
-pub rendered-by : (operators : ℕ) (os : List ℕ)
+pub rendered_by : (operators : ℕ) (os : List ℕ)
     → rendered operators os
     ≡ cond (reused os || not (renders operators os (grown os))) (cond (renders operators os 1) 1 0) (grown os)
-unfolding rendered callLength chained
-rendered-by operators os = pick (reused os) (renders operators os (grown os)) (renders operators os 1) refl refl
+unfolding rendered call_length chained
+rendered_by operators os = pick (reused os) (renders operators os (grown os)) (renders operators os 1) refl refl
   where
     length : Bool → ℕ
     length b = cond (renders operators os (cond b 1 (grown os))) (cond b 1 (grown os)) 1
@@ -69,10 +69,10 @@ abbrev pub Unset : Bool → Bool → Type 0
 Unset asked isReady = (asked ≡ true) × (isReady ≡ false)
 
 module _ (isReady : ℕ → Bool) (c : Call) where
-  pub unset-cases : unready isReady c ≡ true
+  pub unset_cases : unready isReady c ≡ true
       → Unset (reading c) (isReady c.input) ⊎ Unset c.add (isReady c.output)
   unfolding unready
-  unset-cases e = pick (reading c) (isReady c.input) c.add (isReady c.output) e
+  unset_cases e = pick (reading c) (isReady c.input) c.add (isReady c.output) e
     where
       pick : (a r b s : Bool) → ((a && not r) || (b && not s)) ≡ true → Unset a r ⊎ Unset b s
       pick true false b s e = inl (refl, refl)
@@ -83,13 +83,13 @@ module _ (isReady : ℕ → Bool) (c : Call) where
       pick false r true true e = absurd (false≢true e)
       pick false r false s e = absurd (false≢true e)
 
-  pub unset-read : Unset (reading c) (isReady c.input) → unready isReady c ≡ true
+  pub unset_read : Unset (reading c) (isReady c.input) → unready isReady c ≡ true
   unfolding unready
-  unset-read h = rw (h.0, h.1) refl
+  unset_read h = rw (h.0, h.1) refl
 
-  pub unset-added : Unset c.add (isReady c.output) → unready isReady c ≡ true
+  pub unset_added : Unset c.add (isReady c.output) → unready isReady c ≡ true
   unfolding unready
-  unset-added h = pick (reading c && not (isReady c.input)) c.add (isReady c.output) h.0 h.1
+  unset_added h = pick (reading c && not (isReady c.input)) c.add (isReady c.output) h.0 h.1
     where
       pick : (a b s : Bool) → b ≡ true → s ≡ false → (a || (b && not s)) ≡ true
       pick true b s e f = refl

@@ -12,8 +12,8 @@ use lib.ListN.{length, get_or, set, take, drop, drop_of_length-le}
 use lib.Seq.{length-take-le, drop-drop, get_or-set_same, get_or-set_other}
 use borrow.Author.Tests.{ne_eqb, eqb-true, eqb-false}
 use Rattle.algorithms.specs.Opcode.{destination, source}
-use Rattle.algorithms.specs.Chain.{rowFrom, Within, rendered}
-use Rattle.algorithms.specs.Plan.{call_of, noCall, reading, ready, unready, extended, refusal, planFrom, counted}
+use Rattle.algorithms.specs.Chain.{row_from, Within, rendered}
+use Rattle.algorithms.specs.Plan.{call_of, no_call, reading, ready, unready, extended, refusal, plan_from, counted}
 use Rattle.algorithms.specs.declared.Call.{Call}
 use Rattle.algorithms.specs.declared.Plan.{Plan}
 use Rattle.algorithms.specs.declared.Planned.{Planned}
@@ -21,12 +21,12 @@ use Rattle.algorithms.proofs.Rows.{row_cons}
 
 -- the operators inside a call are passed over
 pub inside : (operators k first : ℕ) (p : Plan) (os : List ℕ)
-    → planFrom operators k first p os ≡ planFrom operators 0 (first + k) p (drop k os)
-unfolding planFrom
+    → plan_from operators k first p os ≡ plan_from operators 0 (first + k) p (drop k os)
+unfolding plan_from
 inside operators zero first p os = rw add-zero
 inside operators (suc k) first p [] = refl
 inside operators (suc k) first p (o ∷ os) =
-    inside operators k (suc first) p os ∙ ap (λ (j : ℕ). planFrom operators 0 j p (drop k os)) (omega arith)
+    inside operators k (suc first) p os ∙ ap (λ (j : ℕ). plan_from operators 0 j p (drop k os)) (omega arith)
 
 -- what holds of both refusals, and of the walk behind an accepted call, holds of the walk where a call begins
 module _ (A : Planned → Type 0) (operators first : ℕ) (p : Plan) (o : ℕ) (os : List ℕ) where
@@ -37,12 +37,12 @@ module _ (A : Planned → Type 0) (operators first : ℕ) (p : Plan) (o : ℕ) (
   c = call_of first n (o ∷ os)
 
   abbrev next : Planned
-  next = planFrom operators (n - 1) (suc first) (extended p c) os
+  next = plan_from operators (n - 1) (suc first) (extended p c) os
 
   pub at_call : A (refusal 3 first) → A (refusal 4 first)
       → (eqb n 0 ≡ false → unready (ready p.calls p.count) c ≡ false → A next)
-      → A (planFrom operators 0 first p (o ∷ os))
-  unfolding planFrom
+      → A (plan_from operators 0 first p (o ∷ os))
+  unfolding plan_from
   at_call lacks-one is-unready goes_on = pick (eqb n 0) (unready (ready p.calls p.count) c) refl refl
     where
       pick : (b d : Bool) → eqb n 0 ≡ b → unready (ready p.calls p.count) c ≡ d
@@ -51,46 +51,46 @@ module _ (A : Planned → Type 0) (operators first : ℕ) (p : Plan) (o : ℕ) (
       pick false true x y = is-unready
       pick false false x y = goes_on x y
 
-module _ (operators first : ℕ) (row : List ℕ) (w : Within operators first row) (p : Plan) (n : ℕ) (en : n ≡ rendered operators (rowFrom operators first row)) where
+module _ (operators first : ℕ) (row : List ℕ) (w : Within operators first row) (p : Plan) (n : ℕ) (en : n ≡ rendered operators (row_from operators first row)) where
   -- a call without a renderer
-  pub lacking-at : n ≡ 0 → refusal 3 first ≡ planFrom operators 0 first p (rowFrom operators first row)
-  unfolding planFrom
-  lacking-at h =
+  pub lacking_at : n ≡ 0 → refusal 3 first ≡ plan_from operators 0 first p (row_from operators first row)
+  unfolding plan_from
+  lacking_at h =
       let e = rw (row_cons operators first row w) at en in
       rw (row_cons operators first row w, sym e ∙ h)
 
-  module _ (c : Call) (ec : c ≡ call_of first n (rowFrom operators first row)) (h : n ≡ 0 → ⊥) (u : Bool) (eu : u ≡ unready (ready p.calls p.count) c) where
+  module _ (c : Call) (ec : c ≡ call_of first n (row_from operators first row)) (h : n ≡ 0 → ⊥) (u : Bool) (eu : u ≡ unready (ready p.calls p.count) c) where
     -- a call that is not ready
-    pub unready-at : u ≡ true → refusal 4 first ≡ planFrom operators 0 first p (rowFrom operators first row)
-    unfolding planFrom
-    unready-at z =
+    pub unready_at : u ≡ true → refusal 4 first ≡ plan_from operators 0 first p (row_from operators first row)
+    unfolding plan_from
+    unready_at z =
         let e = rw (row_cons operators first row w) at en in
         let d = rw (row_cons operators first row w) at ec in
         rw (row_cons operators first row w, ← e, ne_eqb n 0 h, ← d, ← eu, z)
 
     -- an accepted one
-    pub step-at : u ≡ false → planFrom operators 0 (first + n) (extended p c) (rowFrom operators (first + n) row) ≡ planFrom operators 0 first p (rowFrom operators first row)
-    unfolding planFrom
-    step-at z =
+    pub step_at : u ≡ false → plan_from operators 0 (first + n) (extended p c) (row_from operators (first + n) row) ≡ plan_from operators 0 first p (row_from operators first row)
+    unfolding plan_from
+    step_at z =
         let e = rw (row_cons operators first row w) at en in
         let d = rw (row_cons operators first row w) at ec in
         let m : suc first + (n - 1) ≡ first + n = omega arith in
-        let r : drop (n - 1) (rowFrom operators (suc first) row) ≡ rowFrom operators (first + n) row = drop-drop (n - 1) (suc first) (take operators row) ∙ rw m in
-        let i : planFrom operators (n - 1) (suc first) (extended p c) (rowFrom operators (suc first) row) ≡ planFrom operators 0 (first + n) (extended p c) (rowFrom operators (first + n) row)
-        = inside operators (n - 1) (suc first) (extended p c) (rowFrom operators (suc first) row) ∙ rw (m, r) in
+        let r : drop (n - 1) (row_from operators (suc first) row) ≡ row_from operators (first + n) row = drop-drop (n - 1) (suc first) (take operators row) ∙ rw m in
+        let i : plan_from operators (n - 1) (suc first) (extended p c) (row_from operators (suc first) row) ≡ plan_from operators 0 (first + n) (extended p c) (row_from operators (first + n) row)
+        = inside operators (n - 1) (suc first) (extended p c) (row_from operators (suc first) row) ∙ rw (m, r) in
         rw (row_cons operators first row w, ← e, ne_eqb n 0 h, ← d, ← eu, z) (sym i)
 
 -- the row's end
 pub done_at : (operators first : ℕ) (row : List ℕ) (p : Plan) → length row ≡ 6 → operators ≤ 6 → operators ≤ first
-    → record { number = 0; at = 0; plan = p } ≡ planFrom operators 0 first p (rowFrom operators first row)
-unfolding planFrom
+    → record { number = 0; at = 0; plan = p } ≡ plan_from operators 0 first p (row_from operators first row)
+unfolding plan_from
 done_at operators first row p l m h =
     rw (drop_of_length-le (take operators row) {i = first} (rw (length-take-le operators row (omega arith)) h))
 
 -- operators that are counted are some, and at most six
-counted-range : (operators : ℕ) → counted operators ≡ true → (0 < operators) × (operators ≤ 6)
+counted_range : (operators : ℕ) → counted operators ≡ true → (0 < operators) × (operators ≤ 6)
 unfolding counted
-counted-range operators e = pick (eqb operators 4) (eqb operators 6) refl refl e
+counted_range operators e = pick (eqb operators 4) (eqb operators 6) refl refl e
   where
     pick : (b d : Bool) → eqb operators 4 ≡ b → eqb operators 6 ≡ d → (b || d) ≡ true
         → (0 < operators) × (operators ≤ 6)
@@ -98,11 +98,11 @@ counted-range operators e = pick (eqb operators 4) (eqb operators 6) refl refl e
     pick false true f g e = let z = eqb-true operators 6 g in (omega arith, omega arith)
     pick false false f g e = absurd (false≢true e)
 
-pub counted-some : (operators : ℕ) → counted operators ≡ true → 0 < operators
-counted-some operators e = (counted-range operators e).0
+pub counted_some : (operators : ℕ) → counted operators ≡ true → 0 < operators
+counted_some operators e = (counted_range operators e).0
 
-pub counted-few : (operators : ℕ) → counted operators ≡ true → operators ≤ 6
-counted-few operators e = (counted-range operators e).1
+pub counted_few : (operators : ℕ) → counted operators ≡ true → operators ≤ 6
+counted_few operators e = (counted_range operators e).1
 
 -- ---- flags
 
@@ -111,54 +111,54 @@ abbrev pub Flags : List Bool → List Call → ℕ → Type 0
 Flags flags cs k = (q : ℕ) → q < 4 → get_or flags q false ≡ ready cs k q
 
 -- at the start only the output is ready
-pub flags-start : (cs : List Call) → Flags (true ∷ false ∷ false ∷ false ∷ []) cs 0
+pub flags_start : (cs : List Call) → Flags (true ∷ false ∷ false ∷ false ∷ []) cs 0
 unfolding ready
-flags-start cs zero h = refl
-flags-start cs (suc zero) h = refl
-flags-start cs (suc (suc zero)) h = refl
-flags-start cs (suc (suc (suc zero))) h = refl
-flags-start cs (suc (suc (suc (suc q)))) h = absurd (omega arith)
+flags_start cs zero h = refl
+flags_start cs (suc zero) h = refl
+flags_start cs (suc (suc zero)) h = refl
+flags_start cs (suc (suc (suc zero))) h = refl
+flags_start cs (suc (suc (suc (suc q)))) h = absurd (omega arith)
 
 -- a call's buffers are among the four
-pub call-input : (first n : ℕ) (os : List ℕ) (c : Call) → c ≡ call_of first n os → c.input < 4
+pub call_input : (first n : ℕ) (os : List ℕ) (c : Call) → c ≡ call_of first n os → c.input < 4
 unfolding call_of source
-call-input first n os c e = rw e (omega arith)
+call_input first n os c e = rw e (omega arith)
 
-pub call-output : (first n : ℕ) (os : List ℕ) (c : Call) → c ≡ call_of first n os → c.output < 4
+pub call_output : (first n : ℕ) (os : List ℕ) (c : Call) → c ≡ call_of first n os → c.output < 4
 unfolding call_of destination
-call-output first n os c e = rw e (omega arith)
+call_output first n os c e = rw e (omega arith)
 
-pub flags-agree : (flags : List Bool) (cs : List Call) (k : ℕ) (c : Call) → Flags flags cs k → c.input < 4
+pub flags_agree : (flags : List Bool) (cs : List Call) (k : ℕ) (c : Call) → Flags flags cs k → c.input < 4
     → c.output < 4 → unready (λ q. get_or flags q false) c ≡ unready (ready cs k) c
 unfolding unready
-flags-agree flags cs k c f i o = rw (f c.input i, f c.output o)
+flags_agree flags cs k c f i o = rw (f c.input i, f c.output o)
 
 -- what stands behind the first k calls is nothing to them
-pub ready-before : (cs : List Call) (i k q : ℕ) (c : Call) → k ≤ i → ready (set cs i c) k q ≡ ready cs k q
+pub ready_before : (cs : List Call) (i k q : ℕ) (c : Call) → k ≤ i → ready (set cs i c) k q ≡ ready cs k q
 unfolding ready
-ready-before cs i zero q c h = refl
-ready-before cs i (suc k) q c h =
-    rw (get_or-set_other cs i k c noCall (omega arith), ready-before cs i k q c (omega arith))
+ready_before cs i zero q c h = refl
+ready_before cs i (suc k) q c h =
+    rw (get_or-set_other cs i k c no_call (omega arith), ready_before cs i k q c (omega arith))
 
 -- a call that passes sets its buffer, or the buffer was ready
-set-or-ready : (x a r : Bool) → (x || (a && not r)) ≡ false → (not a || r) ≡ true
-set-or-ready true a r e = absurd (true≢false e)
-set-or-ready false true true e = refl
-set-or-ready false true false e = absurd (true≢false e)
-set-or-ready false false r e = refl
+set_or_ready : (x a r : Bool) → (x || (a && not r)) ≡ false → (not a || r) ≡ true
+set_or_ready true a r e = absurd (true≢false e)
+set_or_ready false true true e = refl
+set_or_ready false true false e = absurd (true≢false e)
+set_or_ready false false r e = refl
 
 -- the buffer that an accepted call writes is ready behind it
-pub flags-more : (flags : List Bool) (cs : List Call) (k : ℕ) (c : Call) → length flags ≡ 4 → k < length cs
+pub flags_more : (flags : List Bool) (cs : List Call) (k : ℕ) (c : Call) → length flags ≡ 4 → k < length cs
     → c.output < 4 → unready (ready cs k) c ≡ false → Flags flags cs k
     → Flags (set flags c.output true) (set cs k c) (k + 1)
 unfolding ready unready
-flags-more flags cs k c l h o u f q hq =
-    rw (add-one, get_or-set_same cs k c noCall h, ready-before cs k k q c (le_refl k)) (pick (eqb q c.output) refl)
+flags_more flags cs k c l h o u f q hq =
+    rw (add-one, get_or-set_same cs k c no_call h, ready_before cs k k q c (le_refl k)) (pick (eqb q c.output) refl)
   where
     pick : (b : Bool) → eqb q c.output ≡ b
         → get_or (set flags c.output true) q false ≡ ((b && not c.add) || ready cs k q)
     pick true e =
         let z = eqb-true q c.output e in
         rw (z, get_or-set_same flags c.output true false (omega arith))
-        (sym (set-or-ready (reading c && not (ready cs k c.input)) c.add (ready cs k c.output) u))
+        (sym (set_or_ready (reading c && not (ready cs k c.input)) c.add (ready cs k c.output) u))
     pick false e = get_or-set_other flags c.output q true false (eqb-false q c.output e) ∙ f q hq

@@ -11,7 +11,7 @@ use lib.ListN.{length, get_or}
 use borrow.Author.Tests.{ltb-true, lt-ltb, le-ltb, lt-leb, le-leb, eq-eqb, ne_eqb}
 use Rattle.algorithms.specs.Opcode.{modulating}
 use Rattle.algorithms.specs.Plan.{counted, refusal, planned}
-use Rattle.algorithms.specs.Table.{six, tabled, row_of, with_row, compiled, modulatorAnswer}
+use Rattle.algorithms.specs.Table.{six, tabled, row_of, with_row, compiled, modulator_answer}
 use Rattle.algorithms.specs.declared.Compiled.{Compiled}
 use Rattle.algorithms.specs.declared.Planned.{Planned}
 
@@ -30,47 +30,47 @@ row_fits operators table row e =
 
 -- ---- the tests of the code, in order
 
-pub wrong-operators : (operators : ℕ) (table : List ℕ) (row : ℕ) → counted operators ≡ false
+pub wrong_operators : (operators : ℕ) (table : List ℕ) (row : ℕ) → counted operators ≡ false
     → false ≡ tabled operators table row
 unfolding tabled
-wrong-operators operators table row k = rw k
+wrong_operators operators table row k = rw k
 
 module _ (operators : ℕ) (table : List ℕ) (row : ℕ) (k : counted operators ≡ true) where
-  pub empty-table : length table ≡ 0 → false ≡ tabled operators table row
+  pub empty_table : length table ≡ 0 → false ≡ tabled operators table row
   unfolding tabled
-  empty-table e = rw (k, le-ltb 0 (length table) (omega arith))
+  empty_table e = rw (k, le-ltb 0 (length table) (omega arith))
 
   module _ (e : length table ≡ 0 → ⊥) where
-    pub broken-table : (length table % operators ≡ 0 → ⊥) → false ≡ tabled operators table row
+    pub broken_table : (length table % operators ≡ 0 → ⊥) → false ≡ tabled operators table row
     unfolding tabled
-    broken-table h = rw (k, lt-ltb 0 (length table) (omega arith), ne_eqb (length table % operators) 0 h)
+    broken_table h = rw (k, lt-ltb 0 (length table) (omega arith), ne_eqb (length table % operators) 0 h)
 
     module _ (h : length table % operators ≡ 0) where
-      pub long-table : 32 < length table / operators → false ≡ tabled operators table row
+      pub long_table : 32 < length table / operators → false ≡ tabled operators table row
       unfolding tabled
-      long-table l = rw (k, lt-ltb 0 (length table) (omega arith), eq-eqb (length table % operators) 0 h, lt-leb (length table / operators) 32 l)
+      long_table l = rw (k, lt-ltb 0 (length table) (omega arith), eq-eqb (length table % operators) 0 h, lt-leb (length table / operators) 32 l)
 
-      pub row-test : length table / operators ≤ 32 → ltb row (length table / operators) ≡ tabled operators table row
+      pub row_test : length table / operators ≤ 32 → ltb row (length table / operators) ≡ tabled operators table row
       unfolding tabled
-      row-test l = rw (k, lt-ltb 0 (length table) (omega arith), eq-eqb (length table % operators) 0 h, le-leb (length table / operators) 32 l)
+      row_test l = rw (k, lt-ltb 0 (length table) (omega arith), eq-eqb (length table % operators) 0 h, le-leb (length table / operators) 32 l)
 
 -- ---- an operator of a row
 
 module _ (operators : ℕ) (table : List ℕ) (row operator : ℕ) where
-  pub no-such-row : tabled operators table row ≡ false → record { number = 2; modulates = false } ≡ modulatorAnswer operators table row operator
-  unfolding modulatorAnswer
-  no-such-row h = rw h
+  pub no_such_row : tabled operators table row ≡ false → record { number = 2; modulates = false } ≡ modulator_answer operators table row operator
+  unfolding modulator_answer
+  no_such_row h = rw h
 
-  pub no-such-operator : tabled operators table row ≡ true → operators ≤ operator
-      → record { number = 2; modulates = false } ≡ modulatorAnswer operators table row operator
-  unfolding modulatorAnswer
-  no-such-operator h l = rw (h, le-ltb operator operators l)
+  pub no_such_operator : tabled operators table row ≡ true → operators ≤ operator
+      → record { number = 2; modulates = false } ≡ modulator_answer operators table row operator
+  unfolding modulator_answer
+  no_such_operator h l = rw (h, le-ltb operator operators l)
 
-  pub row-operator : tabled operators table row ≡ true → operator < operators → {bytes : List ℕ} {byte : ℕ} {b : Bool}
+  pub row_operator : tabled operators table row ≡ true → operator < operators → {bytes : List ℕ} {byte : ℕ} {b : Bool}
       → bytes ≡ row_of operators table row → byte ≡ get_or bytes operator 0 → b ≡ modulating byte
-      → record { number = 0; modulates = b } ≡ modulatorAnswer operators table row operator
-  unfolding modulatorAnswer
-  row-operator h l eb eo e = rw (h, lt-ltb operator operators l, e, eo, eb)
+      → record { number = 0; modulates = b } ≡ modulator_answer operators table row operator
+  unfolding modulator_answer
+  row_operator h l eb eo e = rw (h, lt-ltb operator operators l, e, eo, eb)
 
 -- ---- the row beside its plan
 
@@ -95,17 +95,17 @@ unfolding with_row six
 zero_row bytes p h = rw (ne_eqb p.number 0 h)
 
 -- a refusal's row is zero, whatever the bytes
-pub refused-row : (bytes other : List ℕ) (number at : ℕ) → (number ≡ 0 → ⊥)
+pub refused_row : (bytes other : List ℕ) (number at : ℕ) → (number ≡ 0 → ⊥)
     → with_row bytes (refusal number at) ≡ with_row other (refusal number at)
 unfolding with_row
-refused-row bytes other number at h = rw (ne_eqb number 0 h)
+refused_row bytes other number at h = rw (ne_eqb number 0 h)
 
 module _ (operators : ℕ) (table : List ℕ) (row : ℕ) (t : Bool) (et : t ≡ tabled operators table row) (bytes : List ℕ) (p : Planned) (r : Compiled) (er : r ≡ with_row bytes p) where
-  pub compiled-row : t ≡ true → bytes ≡ row_of operators table row → p ≡ planned operators bytes
+  pub compiled_row : t ≡ true → bytes ≡ row_of operators table row → p ≡ planned operators bytes
       → r ≡ compiled operators table row
   unfolding compiled
-  compiled-row z eb ep = rw (← et, z, ← eb, ← ep) er
+  compiled_row z eb ep = rw (← et, z, ← eb, ← ep) er
 
-  pub compiled-refused : t ≡ false → p ≡ refusal 2 0 → r ≡ compiled operators table row
+  pub compiled_refused : t ≡ false → p ≡ refusal 2 0 → r ≡ compiled operators table row
   unfolding compiled
-  compiled-refused z ep = rw (← et, z) (er ∙ rw ep (refused-row bytes (row_of operators table row) 2 0 (omega arith)))
+  compiled_refused z ep = rw (← et, z) (er ∙ rw ep (refused_row bytes (row_of operators table row) 2 0 (omega arith)))

@@ -4,8 +4,8 @@ use Rattle.std.specs.Prelude.{ℕ, suc, ◌-◌, ◌≤◌, ◌<◌, ◌≡◌, 
 use Rattle.algorithms.specs.Opcode.{destination, adding, source, flagged}
 
 -- the row from operator `first` on
-abbrev pub rowFrom : ℕ → ℕ → List ℕ → List ℕ
-rowFrom operators first row = drop first (take operators row)
+abbrev pub row_from : ℕ → ℕ → List ℕ → List ℕ
+row_from operators first row = drop first (take operators row)
 
 -- a row of six bytes has at most six operators, and `first` is one of them
 pub record Within (operators first : ℕ) (row : List ℕ) : Type 0 where
@@ -16,8 +16,8 @@ pub record Within (operators first : ℕ) (row : List ℕ) : Type 0 where
 -- ---- why a chain ends at an operator, where `os` are the operators behind it
 
 -- it is the row's last operator
-unfoldable pub lastOperator : List ℕ → Bool
-lastOperator os = eqb (length os) 0
+unfoldable pub last_operator : List ℕ → Bool
+last_operator os = eqb (length os) 0
 
 -- its destination does not meet the next source
 unfoldable pub unmet : ℕ → List ℕ → Bool
@@ -25,7 +25,7 @@ unmet o os = not (eqb (destination o) (source (get_or os 0 0)))
 
 -- a chain ends for the one or the other, or at an add flag
 unfoldable pub ends : ℕ → List ℕ → Bool
-ends o os = lastOperator os || (unmet o os || adding o)
+ends o os = last_operator os || (unmet o os || adding o)
 
 -- a chain grows while destination meets next source without an add flag
 unfoldable pub grown : List ℕ → ℕ
@@ -52,15 +52,15 @@ pub data Modulation : Type 0 where
   originless : Modulation
 
 -- the origin is the last flagged operator; the next operator to look at is the j-th of the call
-unfoldable pub originFrom : ℕ → Modulation → List ℕ → Modulation
-originFrom j found [] = found
-originFrom j found (o ∷ os) = originFrom (suc j) (cond (flagged o) (feedback j) found) os
+unfoldable pub origin_from : ℕ → Modulation → List ℕ → Modulation
+origin_from j found [] = found
+origin_from j found (o ∷ os) = origin_from (suc j) (cond (flagged o) (feedback j) found) os
 
 -- what modulates a call of these operators
 unfoldable pub modulation : List ℕ → Modulation
 modulation os =
     cond (eqb (source (get_or os 0 0)) 0) unmodulated
-    (cond (eqb (source (get_or os 0 0)) 3) (originFrom 0 originless os) external)
+    (cond (eqb (source (get_or os 0 0)) 3) (origin_from 0 originless os) external)
 
 -- four operators know only single calls; six also know feedback chains of 3 (origin 2, add) and 2 (origin 1, add)
 unfoldable pub known : ℕ → ℕ → Modulation → Bool → Bool
@@ -75,9 +75,9 @@ unfoldable pub renders : ℕ → List ℕ → ℕ → Bool
 renders operators os n = known operators n (modulation (take n os)) (adding (get_or os (n - 1) 0))
 
 -- having no renderer sets the chain's length to 1, as the reuse rule does
-unfoldable pub callLength : ℕ → List ℕ → ℕ
-callLength operators os = cond (renders operators os (chained os)) (chained os) 1
+unfoldable pub call_length : ℕ → List ℕ → ℕ
+call_length operators os = cond (renders operators os (chained os)) (chained os) 1
 
 -- the operators of a call, or 0 where it has no renderer, neither as a chain nor as one operator
 unfoldable pub rendered : ℕ → List ℕ → ℕ
-rendered operators os = cond (renders operators os (callLength operators os)) (callLength operators os) 0
+rendered operators os = cond (renders operators os (call_length operators os)) (call_length operators os) 0

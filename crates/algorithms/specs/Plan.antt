@@ -8,11 +8,11 @@ use Rattle.algorithms.specs.declared.Plan.{Plan}
 use Rattle.algorithms.specs.declared.Planned.{Planned}
 
 -- the zero call, and the zero plan
-abbrev pub noCall : Call
-noCall = record { first = 0; n = 0; input = 0; output = 0; add = false }
+abbrev pub no_call : Call
+no_call = record { first = 0; n = 0; input = 0; output = 0; add = false }
 
-abbrev pub noPlan : Plan
-noPlan = record { count = 0; calls = noCall ∷ noCall ∷ noCall ∷ noCall ∷ noCall ∷ noCall ∷ [] }
+abbrev pub no_plan : Plan
+no_plan = record { count = 0; calls = no_call ∷ no_call ∷ no_call ∷ no_call ∷ no_call ∷ no_call ∷ [] }
 
 -- the call of n operators from `first` on; `os` is the row from there on. Its input is its first operator's source; it
 -- writes as its last operator says
@@ -32,7 +32,7 @@ reading c = eqb c.input 1 || eqb c.input 2
 -- buffer q is the output, or one of the first k calls has set it
 unfoldable pub ready : List Call → ℕ → ℕ → Bool
 ready cs zero q = eqb q 0
-ready cs (suc k) q = (eqb q (get_or cs k noCall).output && not (get_or cs k noCall).add) || ready cs k q
+ready cs (suc k) q = (eqb q (get_or cs k no_call).output && not (get_or cs k no_call).add) || ready cs k q
 
 -- the call reads or adds to a scratch buffer that no earlier call has set; `isReady` says which buffers are ready
 unfoldable pub unready : (ℕ → Bool) → Call → Bool
@@ -44,19 +44,19 @@ extended p c = record { count = p.count + 1; calls = set p.calls p.count c }
 
 -- a refusal names its operator and carries the zero plan
 abbrev pub refusal : ℕ → ℕ → Planned
-refusal number at = record { number = number; at = at; plan = noPlan }
+refusal number at = record { number = number; at = at; plan = no_plan }
 
 -- the row from operator `first` on, where the plan has the calls before it, and `inside` operators belong to the last
 -- of these. The first faulty call decides; in one call 3 comes before 4
-unfoldable pub planFrom : ℕ → ℕ → ℕ → Plan → List ℕ → Planned
-planFrom operators inside first p [] = record { number = 0; at = 0; plan = p }
-planFrom operators (suc inside) first p (o ∷ os) = planFrom operators inside (suc first) p os
-planFrom operators zero first p (o ∷ os) =
+unfoldable pub plan_from : ℕ → ℕ → ℕ → Plan → List ℕ → Planned
+plan_from operators inside first p [] = record { number = 0; at = 0; plan = p }
+plan_from operators (suc inside) first p (o ∷ os) = plan_from operators inside (suc first) p os
+plan_from operators zero first p (o ∷ os) =
     let n = rendered operators (o ∷ os) in
     let c = call_of first n (o ∷ os) in
     cond (eqb n 0) (refusal 3 first)
     (cond (unready (ready p.calls p.count) c) (refusal 4 first)
-    (planFrom operators (n - 1) (suc first) (extended p c) os))
+    (plan_from operators (n - 1) (suc first) (extended p c) os))
 
 -- operators are 4 or 6
 unfoldable pub counted : ℕ → Bool
@@ -64,31 +64,31 @@ counted operators = eqb operators 4 || eqb operators 6
 
 -- what a row of six bytes, of which the first `operators` count, is compiled to
 unfoldable pub planned : ℕ → List ℕ → Planned
-planned operators row = cond (counted operators) (planFrom operators 0 0 noPlan (take operators row)) (refusal 2 0)
+planned operators row = cond (counted operators) (plan_from operators 0 0 no_plan (take operators row)) (refusal 2 0)
 
 -- two plans are the same, field by field and call by call
-unfoldable pub sameCall : Call → Call → Bool
-sameCall c d =
+unfoldable pub same_call : Call → Call → Bool
+same_call c d =
     eqb c.first d.first
     && (eqb c.n d.n
     && (eqb c.input d.input
     && (eqb c.output d.output
     && beq c.add d.add)))
 
-unfoldable pub sameCalls : List Call → List Call → Bool
-sameCalls [] [] = true
-sameCalls [] (d ∷ ds) = false
-sameCalls (c ∷ cs) [] = false
-sameCalls (c ∷ cs) (d ∷ ds) = sameCall c d && sameCalls cs ds
+unfoldable pub same_calls : List Call → List Call → Bool
+same_calls [] [] = true
+same_calls [] (d ∷ ds) = false
+same_calls (c ∷ cs) [] = false
+same_calls (c ∷ cs) (d ∷ ds) = same_call c d && same_calls cs ds
 
-unfoldable pub samePlan : Plan → Plan → Bool
-samePlan p q = eqb p.count q.count && sameCalls p.calls q.calls
+unfoldable pub same_plan : Plan → Plan → Bool
+same_plan p q = eqb p.count q.count && same_calls p.calls q.calls
 
 -- a row is accepted, and this is its plan
-unfoldable pub isPlanOf : ℕ → List ℕ → Plan → Bool
-isPlanOf operators row plan = eqb (planned operators row).number 0 && samePlan plan (planned operators row).plan
+unfoldable pub is_plan_of : ℕ → List ℕ → Plan → Bool
+is_plan_of operators row plan = eqb (planned operators row).number 0 && same_plan plan (planned operators row).plan
 
 -- a way of computing, for the walk of a row and a plan together: the plan of a plan's first k calls
-unfoldable pub firstCalls : ℕ → Plan → Plan
-firstCalls zero p = noPlan
-firstCalls (suc k) p = extended (firstCalls k p) (get_or p.calls k noCall)
+unfoldable pub first_calls : ℕ → Plan → Plan
+first_calls zero p = no_plan
+first_calls (suc k) p = extended (first_calls k p) (get_or p.calls k no_call)

@@ -24,8 +24,8 @@ unfoldable pub row_of : ℕ → List ℕ → ℕ → List ℕ
 row_of operators table row = six (take operators (drop (row * operators) table))
 
 -- whether an operator of a row modulates others; 2 too where the row has no such operator
-unfoldable pub modulatorAnswer : ℕ → List ℕ → ℕ → ℕ → Asked
-modulatorAnswer operators table row operator =
+unfoldable pub modulator_answer : ℕ → List ℕ → ℕ → ℕ → Asked
+modulator_answer operators table row operator =
     cond (tabled operators table row && ltb operator operators)
     (record { number = 0; modulates = modulating (get_or (row_of operators table row) operator 0) })
     (record { number = 2; modulates = false })

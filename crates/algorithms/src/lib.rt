@@ -6,10 +6,10 @@
 // tests decide.
 ghost use Rattle.std.specs.Prelude.{◌≡◌, true, false, not, ◌&&◌, ◌||◌, [], ◌∷◌, ◌+◌, ◌≤◌, ◌<◌, length, get_or, take};
 ghost use Rattle.algorithms.specs.Opcode.{destination, adding, source, flagged, modulating};
-ghost use Rattle.algorithms.specs.Chain.{rowFrom, Within, unmet, grown, reused, chained, callLength, rendered};
-ghost use Rattle.algorithms.specs.Plan.{noCall, noPlan, call_of, reading, unready, planFrom, counted, planned};
-ghost use Rattle.algorithms.specs.Plan.{refusal, sameCall, samePlan, isPlanOf, firstCalls};
-ghost use Rattle.algorithms.specs.Table.{six, tabled, row_of, with_row, compiled, modulatorAnswer};
+ghost use Rattle.algorithms.specs.Chain.{row_from, Within, unmet, grown, reused, chained, call_length, rendered};
+ghost use Rattle.algorithms.specs.Plan.{no_call, no_plan, call_of, reading, unready, plan_from, counted, planned};
+ghost use Rattle.algorithms.specs.Plan.{refusal, same_call, same_plan, is_plan_of, first_calls};
+ghost use Rattle.algorithms.specs.Table.{six, tabled, row_of, with_row, compiled, modulator_answer};
 
 // One call of a plan: n operators from `first` on, their input and output, and whether they add to the output or set
 // it. The input is the source: 0 none, 1 and 2 a buffer, 3 feedback. A feedback call's origin is its last operator.
@@ -102,7 +102,7 @@ fn grows(from: u8, to: u8) -> bool
 // How many operators the chain at `first` grows to.
 pub fn grow(operators: usize, row: &[u8; 6], first: usize) -> usize
     requires { Within operators first row.now }
-    ensures { result ≡ grown (rowFrom operators first row.now) }
+    ensures { result ≡ grown (row_from operators first row.now) }
 {
     let mut last = first;
     while last + 1 < operators {
@@ -119,8 +119,8 @@ pub fn grow(operators: usize, row: &[u8; 6], first: usize) -> usize
 // passes between its operators to itself; where the operator behind the chain is modulated by the first one's buffer
 // too, it must be left there. Algorithms 19 to 25, and 6 of those of four operators, have one modulator for several.
 pub fn is_reused(operators: usize, row: &[u8; 6], first: usize, n: usize) -> bool
-    requires { Within operators first row.now × (n ≡ grown (rowFrom operators first row.now)) }
-    ensures { result ≡ reused (rowFrom operators first row.now) }
+    requires { Within operators first row.now × (n ≡ grown (row_from operators first row.now)) }
+    ensures { result ≡ reused (row_from operators first row.now) }
 {
     let next = first + n;
     if next < operators {
@@ -132,7 +132,7 @@ pub fn is_reused(operators: usize, row: &[u8; 6], first: usize, n: usize) -> boo
 // How long the chain is after the reuse rule, by which it shrinks to its first operator.
 pub fn chain(operators: usize, row: &[u8; 6], first: usize) -> usize
     requires { Within operators first row.now }
-    ensures { result ≡ chained (rowFrom operators first row.now) }
+    ensures { result ≡ chained (row_from operators first row.now) }
 {
     let n = grow(operators, row, first);
     if is_reused(operators, row, first, n) {
@@ -145,7 +145,7 @@ pub fn chain(operators: usize, row: &[u8; 6], first: usize) -> usize
 // whose feedback goes from the last of a chain to its first: no other chain is grown at all.
 pub fn call_length(operators: usize, row: &[u8; 6], first: usize) -> usize
     requires { Within operators first row.now }
-    ensures { result ≡ callLength operators (rowFrom operators first row.now) }
+    ensures { result ≡ call_length operators (row_from operators first row.now) }
 {
     if source_of(row[first]) != 3 {
         return 1;
@@ -169,7 +169,7 @@ pub fn call_length(operators: usize, row: &[u8; 6], first: usize) -> usize
 // The length of the call that has a renderer, or 0: one operator has none if it wants feedback and is no origin itself.
 pub fn rendered_length(operators: usize, row: &[u8; 6], first: usize) -> usize
     requires { Within operators first row.now }
-    ensures { result ≡ rendered operators (rowFrom operators first row.now) }
+    ensures { result ≡ rendered operators (row_from operators first row.now) }
 {
     let n = call_length(operators, row, first);
     if n != 1 {
@@ -187,7 +187,7 @@ pub fn rendered_length(operators: usize, row: &[u8; 6], first: usize) -> usize
 // The call of n operators from `first` on.
 pub fn call_of(operators: usize, row: &[u8; 6], first: usize, n: usize) -> Call
     requires { Within operators first row.now × (1 ≤ n) × (first + n ≤ operators) }
-    ensures { result ≡ call_of first n (rowFrom operators first row.now) }
+    ensures { result ≡ call_of first n (row_from operators first row.now) }
 {
     let last = row[first + n - 1];
     Call {
@@ -245,7 +245,7 @@ fn refused(number: u8, at: u8) -> Planned
 }
 
 pub fn no_plan() -> Plan
-    ensures { result ≡ noPlan }
+    ensures { result ≡ no_plan }
 {
     let c = no_call();
     Plan {
@@ -255,7 +255,7 @@ pub fn no_plan() -> Plan
 }
 
 fn no_call() -> Call
-    ensures { result ≡ noCall }
+    ensures { result ≡ no_call }
 {
     Call {
         first: 0,
@@ -269,7 +269,7 @@ fn no_call() -> Call
 // The calls in row order. An accepted call's output is ready behind it, whether it set it or added to it.
 fn compile_calls(operators: usize, row: &[u8; 6]) -> Planned
     requires { (length row.now ≡ 6) × (operators ≤ 6) }
-    ensures { result ≡ planFrom operators 0 0 noPlan (take operators row.now) }
+    ensures { result ≡ plan_from operators 0 0 no_plan (take operators row.now) }
 {
     let mut flags = [true, false, false, false];
     let none = no_call();
@@ -322,7 +322,7 @@ pub fn compile_row(operators: usize, row: [u8; 6]) -> Planned
 }
 
 fn same_call(c: Call, d: Call) -> bool
-    ensures { result ≡ sameCall c d }
+    ensures { result ≡ same_call c d }
 {
     if c.first != d.first {
         return false;
@@ -341,7 +341,7 @@ fn same_call(c: Call, d: Call) -> bool
 
 // Whether two plans are equal, the unused calls with the others.
 pub fn same_plan(a: Plan, b: Plan) -> bool
-    ensures { result ≡ samePlan a b }
+    ensures { result ≡ same_plan a b }
 {
     if a.count != b.count {
         return false;
@@ -361,7 +361,7 @@ pub fn same_plan(a: Plan, b: Plan) -> bool
 // Whether a plan has k calls and nothing behind them.
 fn ends_at(plan: Plan, k: usize) -> bool
     requires { k ≤ 6 }
-    ensures { result ≡ samePlan plan (firstCalls k plan) }
+    ensures { result ≡ same_plan plan (first_calls k plan) }
 {
     if plan.count as usize != k {
         return false;
@@ -380,7 +380,7 @@ fn ends_at(plan: Plan, k: usize) -> bool
 
 // Whether a row is accepted and this is its plan. It walks the two together and builds no other plan.
 pub fn is_plan_of(operators: usize, row: [u8; 6], plan: Plan) -> bool
-    ensures { result ≡ isPlanOf operators row plan }
+    ensures { result ≡ is_plan_of operators row plan }
 {
     if !is_counted(operators) {
         return false;
@@ -463,7 +463,7 @@ fn row_of(operators: usize, table: &[u8], row: usize) -> [u8; 6]
 // Whether an operator of a row of a lent table modulates others: 2 where there is no such row, as in `compile`, or no
 // such operator in it. A row that gets 3 or 4 is answered too, since opcodes alone decide.
 pub fn is_modulator(operators: usize, table: &[u8], row: usize, operator: usize) -> Asked
-    ensures { result ≡ modulatorAnswer operators table.now row operator }
+    ensures { result ≡ modulator_answer operators table.now row operator }
 {
     if !is_tabled(operators, table, row) {
         return Asked {

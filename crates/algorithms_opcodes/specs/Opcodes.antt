@@ -4,8 +4,8 @@
 use Rattle.std.specs.Prelude.{ℕ, List, [], ◌∷◌}
 
 -- 8 algorithms of 4 operators
-abbrev pub fourOperators : List ℕ
-fourOperators =
+abbrev pub four_operators : List ℕ
+four_operators =
     0x71 ∷ 0x11 ∷ 0x11 ∷ 0x14  -- 1: 4>3>2>1, feedback at 4
     ∷ 0x71 ∷ 0x05 ∷ 0x11 ∷ 0x14  -- 2: (4 + 3)>2>1, feedback at 4
     ∷ 0x71 ∷ 0x02 ∷ 0x25 ∷ 0x14  -- 3: (4 + 3>2)>1, feedback at 4
@@ -17,8 +17,8 @@ fourOperators =
     ∷ []
 
 -- 32 algorithms of 6 operators
-abbrev pub sixOperators : List ℕ
-sixOperators =
+abbrev pub six_operators : List ℕ
+six_operators =
     0x71 ∷ 0x11 ∷ 0x11 ∷ 0x14 ∷ 0x01 ∷ 0x14  -- 1: 6>5>4>3, 2>1, feedback at 6
     ∷ 0x01 ∷ 0x11 ∷ 0x11 ∷ 0x14 ∷ 0x71 ∷ 0x14  -- 2: 6>5>4>3, 2>1, feedback at 2
     ∷ 0x71 ∷ 0x11 ∷ 0x14 ∷ 0x01 ∷ 0x11 ∷ 0x14  -- 3: 6>5>4, 3>2>1, feedback at 6

@@ -3,7 +3,7 @@
 // highest number down. Above it stands what it says: 6>5 is 6 modulating 5, (6 + 5)>4 the sum of both modulating 4, a
 // comma parts what is heard, and feedback at 6 is 6 modulating itself.
 ghost use Rattle.std.specs.Prelude.{◌≡◌};
-ghost use Rattle.algorithms_opcodes.specs.Opcodes.{fourOperators, sixOperators};
+ghost use Rattle.algorithms_opcodes.specs.Opcodes.{four_operators, six_operators};
 
 // 8 algorithms of 4 operators.
 const OPCODES_4_8: [u8; 32] = [
@@ -94,13 +94,13 @@ const OPCODES_6_32: [u8; 192] = [
 ];
 
 pub fn opcodes_4_8() -> [u8; 32]
-    ensures { result ≡ fourOperators }
+    ensures { result ≡ four_operators }
 {
     OPCODES_4_8
 }
 
 pub fn opcodes_6_32() -> [u8; 192]
-    ensures { result ≡ sixOperators }
+    ensures { result ≡ six_operators }
 {
     OPCODES_6_32
 }

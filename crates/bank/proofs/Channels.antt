@@ -6,56 +6,56 @@ use Prim.Native.Nat.{ℕ, zero, suc, ◌+◌, ◌*◌, ◌≤◌}
 use native.Mathlib.Omega.{arith}
 use lib.ListN.{take}
 use lib.Seq.{drop-set-lt}
-use Rattle.dump.specs.Dump.{channelByte, withChannel, data_of, sumByte}
-use Rattle.dump.proofs.Channels.{sum-byte-with, number-with, sound-channel, sound-sixteen, opened_with}
-use Rattle.bank.specs.Bank.{bankForm, validateOf, number_of, channelOf, slot_of, part_of, parts_of}
-use Rattle.bank.proofs.Parts.{parts-are-data}
+use Rattle.dump.specs.Dump.{channel_byte, with_channel, data_of, sum_byte}
+use Rattle.dump.proofs.Channels.{sum_byte_with, number_with, sound_channel, sound_sixteen, opened_with}
+use Rattle.bank.specs.Bank.{bank_form, validate_of, number_of, channel_of, slot_of, part_of, parts_of}
+use Rattle.bank.proofs.Parts.{parts_are_data}
 
 module _ (n : ℕ) (dump : List ℕ) where
   -- a slot's bytes stay, whatever is written in the channel's place
-  pub slot-with : (slot : ℕ) → slot_of (withChannel n dump) slot ≡ slot_of dump slot
-  unfolding slot_of withChannel
-  slot-with slot = ap (take 128) (drop-set-lt (6 + slot * 128) dump 2 n (omega arith))
+  pub slot_with : (slot : ℕ) → slot_of (with_channel n dump) slot ≡ slot_of dump slot
+  unfolding slot_of with_channel
+  slot_with slot = ap (take 128) (drop-set-lt (6 + slot * 128) dump 2 n (omega arith))
 
   -- from one of the sixteen channels to another number and parts stay, of damaged banks too
-  module _ (from : channelByte dump ≤ 15) (to : n ≤ 15) where
-    pub validate-with : validateOf (withChannel n dump) ≡ validateOf dump
-    unfolding validateOf bankForm
-    validate-with = number-with 0x09 4096 n dump from to
+  module _ (from : channel_byte dump ≤ 15) (to : n ≤ 15) where
+    pub validate_with : validate_of (with_channel n dump) ≡ validate_of dump
+    unfolding validate_of bank_form
+    validate_with = number_with 0x09 4096 n dump from to
 
-    pub part-with : (slot : ℕ) → part_of (withChannel n dump) slot ≡ part_of dump slot
+    pub part_with : (slot : ℕ) → part_of (with_channel n dump) slot ≡ part_of dump slot
     unfolding part_of number_of
-    part-with slot = rw (validate-with, slot-with slot)
+    part_with slot = rw (validate_with, slot_with slot)
 
-    pub parts-with : (k : ℕ) → parts_of (withChannel n dump) k ≡ parts_of dump k
+    pub parts_with : (k : ℕ) → parts_of (with_channel n dump) k ≡ parts_of dump k
     unfolding parts_of
-    parts-with zero = refl
-    parts-with (suc k) = ap₂ ◌++◌ (parts-with k) (part-with k)
+    parts_with zero = refl
+    parts_with (suc k) = ap₂ ◌++◌ (parts_with k) (part_with k)
 
 -- a sound bank that has got another channel
 pub record Changed (n : ℕ) (dump : List ℕ) : Type 0 where
-  pub told : channelOf (withChannel n dump) ≡ record { number = 0; channel = n }
-  pub parts : parts_of (withChannel n dump) 32 ≡ data_of bankForm dump
-  pub checksum : sumByte bankForm (withChannel n dump) ≡ sumByte bankForm dump
+  pub told : channel_of (with_channel n dump) ≡ record { number = 0; channel = n }
+  pub parts : parts_of (with_channel n dump) 32 ≡ data_of bank_form dump
+  pub checksum : sum_byte bank_form (with_channel n dump) ≡ sum_byte bank_form dump
 
-module _ (dump : List ℕ) (sound : validateOf dump ≡ 0) where
+module _ (dump : List ℕ) (sound : validate_of dump ≡ 0) where
   -- the channel of a sound bank is one of sixteen
-  pub bank-channel : channelByte dump ≤ 15
-  unfolding validateOf bankForm
-  bank-channel = sound-channel 0x09 4096 dump sound
+  pub bank_channel : channel_byte dump ≤ 15
+  unfolding validate_of bank_form
+  bank_channel = sound_channel 0x09 4096 dump sound
 
   -- a sound bank with another third byte is sound exactly if that is one of sixteen
-  pub exactly-sixteen : (n : ℕ)
-      → (validateOf (withChannel n dump) ≡ 0 → n ≤ 15) × (n ≤ 15 → validateOf (withChannel n dump) ≡ 0)
-  unfolding validateOf bankForm
-  exactly-sixteen n =
-      (sound-sixteen 0x09 4096 dump sound n, λ to. validate-with n dump bank-channel to ∙ sound)
+  pub exactly_sixteen : (n : ℕ)
+      → (validate_of (with_channel n dump) ≡ 0 → n ≤ 15) × (n ≤ 15 → validate_of (with_channel n dump) ≡ 0)
+  unfolding validate_of bank_form
+  exactly_sixteen n =
+      (sound_sixteen 0x09 4096 dump sound n, λ to. validate_with n dump bank_channel to ∙ sound)
 
   -- and then it has that channel, and the same data and checksum
-  pub channel-changed : (n : ℕ) → n ≤ 15 → Changed n dump
-  unfolding validateOf channelOf bankForm
-  channel-changed n to = record {
+  pub channel_changed : (n : ℕ) → n ≤ 15 → Changed n dump
+  unfolding validate_of channel_of bank_form
+  channel_changed n to = record {
     told = opened_with 0x09 4096 dump sound n to;
-    parts = parts-with n dump bank-channel to 32 ∙ parts-are-data dump sound;
-    checksum = sum-byte-with 0x09 4096 n dump;
+    parts = parts_with n dump bank_channel to 32 ∙ parts_are_data dump sound;
+    checksum = sum_byte_with 0x09 4096 n dump;
   }

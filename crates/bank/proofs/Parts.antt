@@ -6,32 +6,32 @@ use native.Mathlib.Nat.{suc-mul}
 use native.Mathlib.Omega.{arith}
 use lib.ListN.{length, take, drop, length-take, length-drop}
 use lib.Seq.{take-add, drop-drop}
-use Rattle.dump.specs.Dump.{yamahaForm, data_of}
-use Rattle.bank.specs.Bank.{bankForm, validateOf, slot_of, part_of, parts_of}
-use Rattle.bank.proofs.Numbers.{sound-length, slot-sound}
+use Rattle.dump.specs.Dump.{yamaha_form, data_of}
+use Rattle.bank.specs.Bank.{bank_form, validate_of, slot_of, part_of, parts_of}
+use Rattle.bank.proofs.Numbers.{sound_length, slot_sound}
 
-module _ (dump : List ℕ) (sound : validateOf dump ≡ 0) where
+module _ (dump : List ℕ) (sound : validate_of dump ≡ 0) where
   -- a slot's part is its 128 bytes
-  pub part-of-sound : (slot : ℕ) → slot ≤ 31 → part_of dump slot ≡ slot_of dump slot
+  pub part_of_sound : (slot : ℕ) → slot ≤ 31 → part_of dump slot ≡ slot_of dump slot
   unfolding part_of
-  part-of-sound slot h = rw (slot-sound dump slot h sound)
+  part_of_sound slot h = rw (slot_sound dump slot h sound)
 
   pub length_part : (slot : ℕ) → slot ≤ 31 → length (part_of dump slot) ≡ 128
   unfolding slot_of
   length_part slot h =
-      ap length (part-of-sound slot h)
-      ∙ simp (length-take, length-drop, sound-length dump sound) (omega arith)
+      ap length (part_of_sound slot h)
+      ∙ simp (length-take, length-drop, sound_length dump sound) (omega arith)
 
   -- the first n parts are the first n times 128 data bytes
-  first-parts : (n : ℕ) → n ≤ 32 → parts_of dump n ≡ take (n * 128) (drop 6 dump)
+  first_parts : (n : ℕ) → n ≤ 32 → parts_of dump n ≡ take (n * 128) (drop 6 dump)
   unfolding parts_of slot_of
-  first-parts zero h = refl
-  first-parts (suc n) h =
-      ap₂ ◌++◌ (first-parts n (omega arith))
-      (part-of-sound n (omega arith) ∙ ap (take 128) (sym (drop-drop (n * 128) 6 dump)))
+  first_parts zero h = refl
+  first_parts (suc n) h =
+      ap₂ ◌++◌ (first_parts n (omega arith))
+      (part_of_sound n (omega arith) ∙ ap (take 128) (sym (drop-drop (n * 128) 6 dump)))
       ∙ sym (take-add (n * 128) 128 (drop 6 dump))
       ∙ ap (λ (k : ℕ). take k (drop 6 dump)) (sym (suc-mul n 128))
 
-  pub parts-are-data : parts_of dump 32 ≡ data_of bankForm dump
-  unfolding data_of bankForm yamahaForm
-  parts-are-data = first-parts 32 (omega arith)
+  pub parts_are_data : parts_of dump 32 ≡ data_of bank_form dump
+  unfolding data_of bank_form yamaha_form
+  parts_are_data = first_parts 32 (omega arith)

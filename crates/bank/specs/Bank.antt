@@ -4,23 +4,23 @@ use Rattle.std.specs.Prelude.{◌≡◌, cond, List, [], ◌++◌, ℕ, zero, su
 use Rattle.std.specs.Borrow.{Bor}
 use Rattle.dump.specs.declared.Form.{Form}
 use Rattle.dump.specs.declared.Opened.{Opened}
-use Rattle.dump.specs.Dump.{yamahaForm, dumpNumber, opened_of}
+use Rattle.dump.specs.Dump.{yamaha_form, dump_number, opened_of}
 
 -- THE FORM: F0 43 0n 09 20 00, n the channel, 4,096 data bytes, the checksum, F7
-unfoldable pub bankForm : Form
-bankForm = yamahaForm 0x09 4096
+unfoldable pub bank_form : Form
+bank_form = yamaha_form 0x09 4096
 
 -- the number of a bank's dump
-unfoldable pub validateOf : List ℕ → ℕ
-validateOf dump = dumpNumber bankForm dump
+unfoldable pub validate_of : List ℕ → ℕ
+validate_of dump = dump_number bank_form dump
 
 -- the number of a dump and a slot: 2 for a slot above 31, before the dump's
 unfoldable pub number_of : List ℕ → ℕ → ℕ
-number_of dump slot = cond (leb slot 31) (validateOf dump) 2
+number_of dump slot = cond (leb slot 31) (validate_of dump) 2
 
 -- what one who opens a bank gets: its number, and its channel, which is 0 where the number is not 0
-unfoldable pub channelOf : List ℕ → Opened
-channelOf dump = opened_of bankForm dump
+unfoldable pub channel_of : List ℕ → Opened
+channel_of dump = opened_of bank_form dump
 
 -- the 128 bytes of a slot
 unfoldable pub slot_of : List ℕ → ℕ → List ℕ

@@ -2,7 +2,7 @@
 // specs/Bank says, for sound and damaged dumps alike. Numbers given back: 2 slot above 31, 10 wrong length, 11 wrong
 // frame byte, 12 data byte above 127, 13 wrong checksum.
 ghost use Rattle.std.specs.Prelude.{◌≡◌, ◌+◌, ◌≤◌, length};
-ghost use Rattle.bank.specs.Bank.{bankForm, validateOf, number_of, channelOf, slot_of, slot_at, Handed};
+ghost use Rattle.bank.specs.Bank.{bank_form, validate_of, number_of, channel_of, slot_of, slot_at, Handed};
 
 use dump::{Form, Opened};
 
@@ -10,14 +10,14 @@ pub const DUMP_SIZE: usize = 4104;
 
 // A bank's form.
 pub fn bank_form() -> Form
-    ensures { result ≡ bankForm }
+    ensures { result ≡ bank_form }
 {
     dump::yamaha_form(0x09, 4096)
 }
 
 // The number of a bank's dump.
 pub fn validate(dump: &[u8]) -> u8
-    ensures { result ≡ validateOf dump.now }
+    ensures { result ≡ validate_of dump.now }
 {
     dump::number(dump, bank_form())
 }
@@ -34,7 +34,7 @@ pub fn number(dump: &[u8], slot: usize) -> u8
 
 // The number of a bank's dump, and its channel: 0 where the dump is refused.
 pub fn channel(dump: &[u8]) -> Opened
-    ensures { result ≡ channelOf dump.now }
+    ensures { result ≡ channel_of dump.now }
 {
     dump::channel(dump, bank_form())
 }
@@ -92,7 +92,7 @@ impl<'a> Reader<'a> {
 
     // The dump's number and channel, whatever the slot.
     pub fn channel(self) -> Opened
-        ensures { result ≡ channelOf self.entry.dump.now }
+        ensures { result ≡ channel_of self.entry.dump.now }
     {
         channel(self.dump)
     }

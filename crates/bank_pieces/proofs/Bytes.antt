@@ -10,56 +10,56 @@ use lib.Dec.{eqb, leb, ltb}
 use lib.ListN.{length, get_or, take, set}
 use lib.Seq.{paste, paste-zero, paste-suc, take-suc}
 use Rattle.bank_pieces.specs.declared.Receiver.{Receiver}
-use Rattle.bank_pieces.specs.Pieces.{Held, passed, passedAll, place_in, stored, came, cameAll, summedWith}
+use Rattle.bank_pieces.specs.Pieces.{Held, passed, passed_all, place_in, stored, came, came_all, summed_with}
 use Rattle.bank_pieces.specs.Pieces.{counting}
 
 -- bytes in two parts
-pub came-append : (h : Held) (xs ys : List ℕ) → cameAll h (xs ++ ys) ≡ cameAll (cameAll h xs) ys
-unfolding cameAll
-came-append h [] ys = refl
-came-append h (x ∷ xs) ys = came-append (came h x) xs ys
+pub came_append : (h : Held) (xs ys : List ℕ) → came_all h (xs ++ ys) ≡ came_all (came_all h xs) ys
+unfolding came_all
+came_append h [] ys = refl
+came_append h (x ∷ xs) ys = came_append (came h x) xs ys
 
-pub passed-append : (r : Receiver) (xs ys : List ℕ) → passedAll r (xs ++ ys) ≡ passedAll (passedAll r xs) ys
-unfolding passedAll
-passed-append r [] ys = refl
-passed-append r (x ∷ xs) ys = passed-append (passed r x) xs ys
+pub passed_append : (r : Receiver) (xs ys : List ℕ) → passed_all r (xs ++ ys) ≡ passed_all (passed_all r xs) ys
+unfolding passed_all
+passed_append r [] ys = refl
+passed_append r (x ∷ xs) ys = passed_append (passed r x) xs ys
 
 -- a byte before the data, and one behind them
 abbrev passing : Held → Receiver → Held
 passing h r = record { receiver = r; patch = h.patch }
 
-pub came-before : (h : Held) (b : ℕ) → h.receiver.count < 6 → came h b ≡ passing h (passed h.receiver b)
+pub came_before : (h : Held) (b : ℕ) → h.receiver.count < 6 → came h b ≡ passing h (passed h.receiver b)
 unfolding came
-came-before h b l = rw (lt-leb 6 h.receiver.count l)
+came_before h b l = rw (lt-leb 6 h.receiver.count l)
 
-pub came-behind : (h : Held) (b : ℕ) → 4102 ≤ h.receiver.count → came h b ≡ passing h (passed h.receiver b)
+pub came_behind : (h : Held) (b : ℕ) → 4102 ≤ h.receiver.count → came h b ≡ passing h (passed h.receiver b)
 unfolding came
-came-behind h b l = rw (le-ltb h.receiver.count 4102 l, and-false)
+came_behind h b l = rw (le-ltb h.receiver.count 4102 l, and-false)
 
 -- and several
 count_less : (r : Receiver) (b n : ℕ) → r.count + suc n ≤ 6 → (passed r b).count + n ≤ 6
 unfolding passed
 count_less r b n l = omega arith
 
-count-more : (r : Receiver) (b : ℕ) → 4102 ≤ r.count → 4102 ≤ (passed r b).count
+count_more : (r : Receiver) (b : ℕ) → 4102 ≤ r.count → 4102 ≤ (passed r b).count
 unfolding passed
-count-more r b l = omega arith
+count_more r b l = omega arith
 
-pub came-first : (h : Held) (bs : List ℕ) → h.receiver.count + length bs ≤ 6
-    → cameAll h bs ≡ passing h (passedAll h.receiver bs)
-unfolding cameAll passedAll
-came-first h [] l = refl
-came-first h (b ∷ bs) l =
-    ap (λ (k : Held). cameAll k bs) (came-before h b (omega arith))
-    ∙ came-first (passing h (passed h.receiver b)) bs (count_less h.receiver b (length bs) l)
+pub came_first : (h : Held) (bs : List ℕ) → h.receiver.count + length bs ≤ 6
+    → came_all h bs ≡ passing h (passed_all h.receiver bs)
+unfolding came_all passed_all
+came_first h [] l = refl
+came_first h (b ∷ bs) l =
+    ap (λ (k : Held). came_all k bs) (came_before h b (omega arith))
+    ∙ came_first (passing h (passed h.receiver b)) bs (count_less h.receiver b (length bs) l)
 
-pub came-rest : (h : Held) (bs : List ℕ) → 4102 ≤ h.receiver.count
-    → cameAll h bs ≡ passing h (passedAll h.receiver bs)
-unfolding cameAll passedAll
-came-rest h [] l = refl
-came-rest h (b ∷ bs) l =
-    ap (λ (k : Held). cameAll k bs) (came-behind h b l)
-    ∙ came-rest (passing h (passed h.receiver b)) bs (count-more h.receiver b l)
+pub came_rest : (h : Held) (bs : List ℕ) → 4102 ≤ h.receiver.count
+    → came_all h bs ≡ passing h (passed_all h.receiver bs)
+unfolding came_all passed_all
+came_rest h [] l = refl
+came_rest h (b ∷ bs) l =
+    ap (λ (k : Held). came_all k bs) (came_behind h b l)
+    ∙ came_rest (passing h (passed h.receiver b)) bs (count_more h.receiver b l)
 
 -- a reader and a buffer, some bytes on
 abbrev pub held : Receiver → ℕ → ℕ → List ℕ → Held
@@ -78,7 +78,7 @@ module _ (r : Receiver) (piece patch : List ℕ) (wide : length patch ≡ 128) (
 
     -- one byte of data more
     stored_next : (j : ℕ) → j < length piece → at + j < 128 → (sum : ℕ)
-        → cond (eqb (place_in (r.count + j)) 127) (summedWith r.sum (paste patch at piece (suc j))) r.sum ≡ sum
+        → cond (eqb (place_in (r.count + j)) 127) (summed_with r.sum (paste patch at piece (suc j))) r.sum ≡ sum
         → came (some j) (get_or piece j 0) ≡ held r (r.count + suc j) sum (paste patch at piece (suc j))
     unfolding came stored
     stored_next j l room sum e =
@@ -94,26 +94,26 @@ module _ (r : Receiver) (piece patch : List ℕ) (wide : length patch ≡ 128) (
 
     -- up to the end of the patch, but for its last byte
     pub stored_some : (j : ℕ) → j ≤ length piece → at + j < 128
-        → cameAll (record { receiver = r; patch = patch }) (take j piece) ≡ some j
-    unfolding cameAll
+        → came_all (record { receiver = r; patch = patch }) (take j piece) ≡ some j
+    unfolding came_all
     stored_some zero l room =
         ap (λ (p : List ℕ). held r r.count r.sum p) (paste-zero patch at piece)
         ∙ ap (λ (k : ℕ). held r k r.sum (paste patch at piece zero)) (omega arith)
     stored_some (suc j) l room =
-        ap (cameAll (record { receiver = r; patch = patch })) (take-suc piece j 0 (omega arith))
-        ∙ came-append (record { receiver = r; patch = patch }) (take j piece) (get_or piece j 0 ∷ [])
+        ap (came_all (record { receiver = r; patch = patch })) (take-suc piece j 0 (omega arith))
+        ∙ came_append (record { receiver = r; patch = patch }) (take j piece) (get_or piece j 0 ∷ [])
         ∙ ap (λ (h : Held). came h (get_or piece j 0)) (stored_some j (omega arith) (omega arith))
         ∙ stored_next j (omega arith) (omega arith) r.sum
         (rw (ne_eqb (place_in (r.count + j)) 127 (λ e. omega arith)))
 
     -- and with it
-    pub stored-whole : (j : ℕ) → suc j ≤ length piece → at + suc j ≡ 128
-        → cameAll (record { receiver = r; patch = patch }) (take (suc j) piece)
-        ≡ held r (r.count + suc j) (summedWith r.sum (paste patch at piece (suc j))) (paste patch at piece (suc j))
-    unfolding cameAll
-    stored-whole j l full =
-        ap (cameAll (record { receiver = r; patch = patch })) (take-suc piece j 0 (omega arith))
-        ∙ came-append (record { receiver = r; patch = patch }) (take j piece) (get_or piece j 0 ∷ [])
+    pub stored_whole : (j : ℕ) → suc j ≤ length piece → at + suc j ≡ 128
+        → came_all (record { receiver = r; patch = patch }) (take (suc j) piece)
+        ≡ held r (r.count + suc j) (summed_with r.sum (paste patch at piece (suc j))) (paste patch at piece (suc j))
+    unfolding came_all
+    stored_whole j l full =
+        ap (came_all (record { receiver = r; patch = patch })) (take-suc piece j 0 (omega arith))
+        ∙ came_append (record { receiver = r; patch = patch }) (take j piece) (get_or piece j 0 ∷ [])
         ∙ ap (λ (h : Held). came h (get_or piece j 0)) (stored_some j (omega arith) (omega arith))
-        ∙ stored_next j (omega arith) (omega arith) (summedWith r.sum (paste patch at piece (suc j)))
+        ∙ stored_next j (omega arith) (omega arith) (summed_with r.sum (paste patch at piece (suc j)))
         (rw (eq-eqb (place_in (r.count + j)) 127 (omega arith)))

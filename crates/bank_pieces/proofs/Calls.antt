@@ -10,15 +10,15 @@ use lib.ListN.{length, take, drop, length-drop, take-append-drop, drop_of_length
 use lib.Seq.{paste, take-add, take-take, take-length, length-take-le}
 use Rattle.bank_pieces.specs.declared.Receiver.{Receiver}
 use Rattle.bank_pieces.specs.declared.Taken.{Taken}
-use Rattle.bank_pieces.specs.Pieces.{Held, Took, passed, passedAll, place_in, slot_at, cameAll, summedWith}
-use Rattle.bank_pieces.specs.Pieces.{missing, completes, takes, took, frameWith, isRight}
-use Rattle.bank_pieces.proofs.Bytes.{came-append, passed-append, came-first, came-rest, held, stored_some}
-use Rattle.bank_pieces.proofs.Bytes.{stored-whole}
+use Rattle.bank_pieces.specs.Pieces.{Held, Took, passed, passed_all, place_in, slot_at, came_all, summed_with}
+use Rattle.bank_pieces.specs.Pieces.{missing, completes, takes, took, frame_with, is_right}
+use Rattle.bank_pieces.proofs.Bytes.{came_append, passed_append, came_first, came_rest, held, stored_some}
+use Rattle.bank_pieces.proofs.Bytes.{stored_whole}
 
 -- a part of a piece that is put somewhere is so many bytes of the piece put there
-pub paste-part : (d : List ℕ) (at : ℕ) (s : List ℕ) (n : ℕ) → n ≤ length s
+pub paste_part : (d : List ℕ) (at : ℕ) (s : List ℕ) (n : ℕ) → n ≤ length s
     → paste d at (take n s) (length (take n s)) ≡ paste d at s n
-paste-part d at s n l =
+paste_part d at s n l =
     ap (paste d at (take n s)) (length-take-le n s l)
     ∙ ap (λ (t : List ℕ). take at d ++ t ++ drop (at + n) d) (take-take n n s (omega arith))
 
@@ -38,71 +38,71 @@ module _ (r : Receiver) (piece patch : List ℕ) where
   abbrev start : Held
   start = record { receiver = r; patch = patch }
 
-  took-is : (b : Bool) (n : ℕ) (h : Held) → completes r.count (length piece) ≡ b
-      → cond b (missing r.count) (length piece) ≡ n → cameAll start (take n piece) ≡ h
+  took_is : (b : Bool) (n : ℕ) (h : Held) → completes r.count (length piece) ≡ b
+      → cond b (missing r.count) (length piece) ≡ n → came_all start (take n piece) ≡ h
       → answered h n b (cond b (slot_at r.count) 0) ≡ took r piece patch
   unfolding took takes
-  took-is b n h e f g = rw (e, f, g) refl
+  took_is b n h e f g = rw (e, f, g) refl
 
   -- all of a piece that completes no patch
-  took-all : (h : Held) → completes r.count (length piece) ≡ false → cameAll start piece ≡ h
+  took_all : (h : Held) → completes r.count (length piece) ≡ false → came_all start piece ≡ h
       → answered h (length piece) false 0 ≡ took r piece patch
-  took-all h e g = took-is false (length piece) h e refl (ap (cameAll start) (take-length piece) ∙ g)
+  took_all h e g = took_is false (length piece) h e refl (ap (came_all start) (take-length piece) ∙ g)
 
   -- too few bytes for the patch at hand
   pub few : length piece < missing r.count → completes r.count (length piece) ≡ false
   unfolding completes
   few l = rw (lt-leb (missing r.count) (length piece) l, and-false) refl
 
-  enough-is : r.count < 4102 → missing r.count ≤ length piece → completes r.count (length piece) ≡ true
+  enough_is : r.count < 4102 → missing r.count ≤ length piece → completes r.count (length piece) ≡ true
   unfolding completes
-  enough-is t l = rw (lt-ltb r.count 4102 t) (le-leb (missing r.count) (length piece) l)
+  enough_is t l = rw (lt-ltb r.count 4102 t) (le-leb (missing r.count) (length piece) l)
 
-  room-is : 6 ≤ r.count → missing r.count ≡ 128 - place_in r.count
+  room_is : 6 ≤ r.count → missing r.count ≡ 128 - place_in r.count
   unfolding missing
-  room-is l = omega arith
+  room_is l = omega arith
 
   module _ (wide : length patch ≡ 128) (from : 6 ≤ r.count) (to : r.count < 4102) where
-    pub took-some : (q : Receiver) (p : List ℕ) → length piece < 128 - place_in r.count
+    pub took_some : (q : Receiver) (p : List ℕ) → length piece < 128 - place_in r.count
         → q ≡ record { count = r.count + length piece; frame = r.frame; sum = r.sum; ended = r.ended }
         → p ≡ paste patch (place_in r.count) piece (length piece)
         → answered (record { receiver = q; patch = p }) (length piece) false 0 ≡ took r piece patch
-    took-some q p l e f =
+    took_some q p l e f =
         rw (e, f)
-        (took-all (held r (r.count + length piece) r.sum (paste patch (place_in r.count) piece (length piece)))
-        (few (rw (room-is from) l))
-        (sym (ap (cameAll start) (take-length piece))
+        (took_all (held r (r.count + length piece) r.sum (paste patch (place_in r.count) piece (length piece)))
+        (few (rw (room_is from) l))
+        (sym (ap (came_all start) (take-length piece))
         ∙ stored_some r piece patch wide from to (length piece) (omega arith) (omega arith)))
 
     -- enough of them
-    pub took-whole : (room sum : ℕ) (p : List ℕ) → room ≡ 128 - place_in r.count → room ≤ length piece
-        → p ≡ paste patch (place_in r.count) piece room → sum ≡ summedWith r.sum p
+    pub took_whole : (room sum : ℕ) (p : List ℕ) → room ≡ 128 - place_in r.count → room ≤ length piece
+        → p ≡ paste patch (place_in r.count) piece room → sum ≡ summed_with r.sum p
         → answered (held r (r.count + room) sum p) room true (slot_at r.count) ≡ took r piece patch
-    took-whole zero sum p s l e f = let w : ⊥ = omega arith in absurd w
-    took-whole (suc j) sum p s l e f =
+    took_whole zero sum p s l e f = let w : ⊥ = omega arith in absurd w
+    took_whole (suc j) sum p s l e f =
         rw (f, e)
-        (took-is true (suc j)
-        (held r (r.count + suc j) (summedWith r.sum (paste patch (place_in r.count) piece (suc j)))
+        (took_is true (suc j)
+        (held r (r.count + suc j) (summed_with r.sum (paste patch (place_in r.count) piece (suc j)))
         (paste patch (place_in r.count) piece (suc j)))
-        (enough-is to (omega (arith, room-is from))) (room-is from ∙ sym s)
-        (stored-whole r piece patch wide from to j l (omega arith)))
+        (enough_is to (omega (arith, room_is from))) (room_is from ∙ sym s)
+        (stored_whole r piece patch wide from to j l (omega arith)))
 
   -- behind the data all is taken
-  pub took-rest : 4102 ≤ r.count → (q : Receiver) → q ≡ passedAll r piece
+  pub took_rest : 4102 ≤ r.count → (q : Receiver) → q ≡ passed_all r piece
       → answered (record { receiver = q; patch = patch }) (length piece) false 0 ≡ took r piece patch
   unfolding completes
-  took-rest l q e =
+  took_rest l q e =
       rw e
-      (took-all (record { receiver = passedAll r piece; patch = patch }) (rw (le-ltb r.count 4102 l) refl)
-      (came-rest start piece l))
+      (took_all (record { receiver = passed_all r piece; patch = patch }) (rw (le-ltb r.count 4102 l) refl)
+      (came_rest start piece l))
 
   -- bytes of the frame and no others
-  pub took-frame : r.count + length piece ≤ 6 → (q : Receiver) → q ≡ passedAll r piece
+  pub took_frame : r.count + length piece ≤ 6 → (q : Receiver) → q ≡ passed_all r piece
       → answered (record { receiver = q; patch = patch }) (length piece) false 0 ≡ took r piece patch
   unfolding missing
-  took-frame l q e =
+  took_frame l q e =
       rw e
-      (took-all (record { receiver = passedAll r piece; patch = patch }) (few (omega arith)) (came-first start piece l))
+      (took_all (record { receiver = passed_all r piece; patch = patch }) (few (omega arith)) (came_first start piece l))
 
 -- BYTES OF THE FRAME, then others: what is left of the piece is taken as a piece of its own
 abbrev pub onward : ℕ → Took → Took
@@ -122,9 +122,9 @@ module _ (r q : Receiver) (piece patch : List ℕ) (n : ℕ) (six : r.count + n 
   left_is : length (drop n piece) ≡ length piece - n
   left_is = length-drop n piece
 
-  complete-on : completes r.count (length piece) ≡ completes q.count (length (drop n piece))
+  complete_on : completes r.count (length piece) ≡ completes q.count (length (drop n piece))
   unfolding completes missing
-  complete-on =
+  complete_on =
       rw (also, left_is, lt-ltb r.count 4102 (omega arith)) (at (leb 128 (length piece - n)) refl)
     where
       at : (b : Bool) → leb 128 (length piece - n) ≡ b
@@ -136,11 +136,11 @@ module _ (r q : Receiver) (piece patch : List ℕ) (n : ℕ) (six : r.count + n 
           let h = leb-false 128 (length piece - n) e in
           lt-leb ((6 - r.count) + (128 - place_in r.count)) (length piece) (omega arith)
 
-  taken-on : (b : Bool)
+  taken_on : (b : Bool)
       → cond b (missing r.count) (length piece) ≡ n + cond b (missing q.count) (length (drop n piece))
   unfolding missing
-  taken-on true = omega (arith, six, also)
-  taken-on false = omega (arith, left_is, l)
+  taken_on true = omega (arith, six, also)
+  taken_on false = omega (arith, left_is, l)
 
   abbrev first : Held
   first = record { receiver = q; patch = patch }
@@ -152,30 +152,30 @@ module _ (r q : Receiver) (piece patch : List ℕ) (n : ℕ) (six : r.count + n 
   rest b = cond b (missing q.count) (length (drop n piece))
 
   abbrev last : Bool → Held
-  last b = cameAll first (take (rest b) (drop n piece))
+  last b = came_all first (take (rest b) (drop n piece))
 
-  pub took-on : q ≡ passedAll r (take n piece) → onward n (took q (drop n piece) patch) ≡ took r piece patch
-  took-on e = at (completes q.count (length (drop n piece))) refl
+  pub took_on : q ≡ passed_all r (take n piece) → onward n (took q (drop n piece) patch) ≡ took r piece patch
+  took_on e = at (completes q.count (length (drop n piece))) refl
     where
-      came-frame : cameAll begin (take n piece) ≡ first
-      came-frame =
-          came-first begin (take n piece) (omega (arith, length-take-le n piece l, six))
+      came_frame : came_all begin (take n piece) ≡ first
+      came_frame =
+          came_first begin (take n piece) (omega (arith, length-take-le n piece l, six))
           ∙ ap (λ (s : Receiver). record { receiver = s; patch = patch }) (sym e)
 
       at : (b : Bool) → completes q.count (length (drop n piece)) ≡ b
           → onward n (took q (drop n piece) patch) ≡ took r piece patch
       at b f =
-          ap (onward n) (sym (took-is q (drop n piece) patch b (rest b) (last b) f refl refl))
+          ap (onward n) (sym (took_is q (drop n piece) patch b (rest b) (last b) f refl refl))
           ∙ ap (λ (k : ℕ). answered (last b) (n + rest b) b (cond b k 0)) (omega (arith, six, also))
-          ∙ took-is r piece patch b (n + rest b) (last b) (complete-on ∙ f) (taken-on b)
-          (ap (cameAll begin) (take-add n (rest b) piece)
-          ∙ came-append begin (take n piece) (take (rest b) (drop n piece))
-          ∙ ap (λ (k : Held). cameAll k (take (rest b) (drop n piece))) came-frame)
+          ∙ took_is r piece patch b (n + rest b) (last b) (complete_on ∙ f) (taken_on b)
+          (ap (came_all begin) (take-add n (rest b) piece)
+          ∙ came_append begin (take n piece) (take (rest b) (drop n piece))
+          ∙ ap (λ (k : Held). came_all k (take (rest b) (drop n piece))) came_frame)
 
 -- a call takes no more than it is given
-pub taken-least : (r : Receiver) (piece patch : List ℕ) → (took r piece patch).taken.taken ≤ length piece
+pub taken_least : (r : Receiver) (piece patch : List ℕ) → (took r piece patch).taken.taken ≤ length piece
 unfolding took takes completes
-taken-least r piece patch = at (ltb r.count 4102) (leb (missing r.count) (length piece)) refl
+taken_least r piece patch = at (ltb r.count 4102) (leb (missing r.count) (length piece)) refl
   where
     at : (b d : Bool) → leb (missing r.count) (length piece) ≡ d
         → cond (b && d) (missing r.count) (length piece) ≤ length piece
@@ -184,11 +184,11 @@ taken-least r piece patch = at (ltb r.count 4102) (leb (missing r.count) (length
     at false d e = omega arith
 
 -- HOW FAR BYTES THAT ARE NO DATA COUNT
-pub passed-count : (r : Receiver) (bs : List ℕ) → r.count ≤ 18446744073709551615
-    → (passedAll r bs).count ≡ min (r.count + length bs) 18446744073709551615
-unfolding passedAll passed
-passed-count r [] l = omega arith
-passed-count r (b ∷ bs) l = let e = passed-count (passed r b) bs (omega arith) in omega arith
+pub passed_count : (r : Receiver) (bs : List ℕ) → r.count ≤ 18446744073709551615
+    → (passed_all r bs).count ≡ min (r.count + length bs) 18446744073709551615
+unfolding passed_all passed
+passed_count r [] l = omega arith
+passed_count r (b ∷ bs) l = let e = passed_count (passed r b) bs (omega arith) in omega arith
 
 -- a reader with another count
 abbrev recounted : Receiver → ℕ → Receiver
@@ -196,8 +196,8 @@ recounted r n = record { count = n; frame = r.frame; sum = r.sum; ended = r.ende
 
 -- what is too much is only counted
 beyond : (r : Receiver) (bs : List ℕ) → 4104 ≤ r.count → r.count ≤ 18446744073709551615
-    → passedAll r bs ≡ recounted r (min (r.count + length bs) 18446744073709551615)
-unfolding passedAll passed frameWith isRight
+    → passed_all r bs ≡ recounted r (min (r.count + length bs) 18446744073709551615)
+unfolding passed_all passed frame_with is_right
 beyond r [] l m = ap (recounted r) (omega arith)
 beyond r (b ∷ bs) l m =
     rw (
@@ -209,31 +209,31 @@ beyond r (b ∷ bs) l m =
     (beyond (recounted r (min (r.count + 1) 18446744073709551615)) bs (omega arith) (omega arith)
     ∙ ap (recounted r) (omega arith))
 
-empty : (q : Receiver) → passedAll q [] ≡ q
-unfolding passedAll
+empty : (q : Receiver) → passed_all q [] ≡ q
+unfolding passed_all
 empty q = refl
 
-pub passed-rest : (r : Receiver) (piece : List ℕ) (n : ℕ) (q : Receiver) (k : ℕ) → 4102 ≤ r.count
-    → r.count ≤ 18446744073709551615 → n ≡ min (4104 - r.count) (length piece) → q ≡ passedAll r (take n piece)
+pub passed_rest : (r : Receiver) (piece : List ℕ) (n : ℕ) (q : Receiver) (k : ℕ) → 4102 ≤ r.count
+    → r.count ≤ 18446744073709551615 → n ≡ min (4104 - r.count) (length piece) → q ≡ passed_all r (take n piece)
     → k ≡ min (q.count + (length piece - n)) 18446744073709551615
-    → recounted q k ≡ passedAll r piece
-passed-rest r piece n q k from top least e f = at (leb (length piece) n) refl
+    → recounted q k ≡ passed_all r piece
+passed_rest r piece n q k from top least e f = at (leb (length piece) n) refl
   where
-    whole : passedAll r piece ≡ passedAll q (drop n piece)
+    whole : passed_all r piece ≡ passed_all q (drop n piece)
     whole =
-        ap (passedAll r) (sym (take-append-drop n piece))
-        ∙ passed-append r (take n piece) (drop n piece)
-        ∙ ap (λ (s : Receiver). passedAll s (drop n piece)) (sym e)
+        ap (passed_all r) (sym (take-append-drop n piece))
+        ∙ passed_append r (take n piece) (drop n piece)
+        ∙ ap (λ (s : Receiver). passed_all s (drop n piece)) (sym e)
 
     count : q.count ≡ min (r.count + n) 18446744073709551615
     count =
-        ap (λ (s : Receiver). s.count) e ∙ passed-count r (take n piece) top
+        ap (λ (s : Receiver). s.count) e ∙ passed_count r (take n piece) top
         ∙ ap (λ (m : ℕ). min (r.count + m) 18446744073709551615) (length-take-le n piece (omega arith))
 
-    nothing : drop n piece ≡ [] → passedAll q (drop n piece) ≡ q
-    nothing g = ap (passedAll q) g ∙ empty q
+    nothing : drop n piece ≡ [] → passed_all q (drop n piece) ≡ q
+    nothing g = ap (passed_all q) g ∙ empty q
 
-    at : (b : Bool) → leb (length piece) n ≡ b → recounted q k ≡ passedAll r piece
+    at : (b : Bool) → leb (length piece) n ≡ b → recounted q k ≡ passed_all r piece
     at true l =
         let all = leb-true (length piece) n l in
         ap (recounted q) (omega (arith, f, count))

@@ -3,8 +3,8 @@
 -- is too much. Definitions only, all to be believed.
 use Rattle.std.specs.Prelude.{Bool, true, false, cond, ◌&&◌, ◌||◌, not, List, [], ◌∷◌, ℕ, suc, ◌+◌, ◌-◌, ◌*◌, ◌/◌, ◌%◌, min, length, get_or, take, set, eqb, leb, ltb}
 use Rattle.dump.specs.declared.Row.{Row}
-use Rattle.dump.specs.Dump.{in_row, total, largestOf}
-use Rattle.bank.specs.Bank.{bankForm}
+use Rattle.dump.specs.Dump.{in_row, total, largest_of}
+use Rattle.bank.specs.Bank.{bank_form}
 use Rattle.bank_pieces.specs.declared.Receiver.{Receiver}
 use Rattle.bank_pieces.specs.declared.Taken.{Taken}
 use Rattle.bank_pieces.specs.declared.Ended.{Ended}
@@ -26,35 +26,35 @@ abbrev pub counting : ℕ → ℕ → ℕ
 counting count more = min (count + more) 18446744073709551615
 
 -- THE FRAME: whether a byte is right at its place, as every byte is that is not the frame's
-unfoldable pub isRight : ℕ → ℕ → Bool
-isRight place b =
-    cond (ltb place 6) (in_row (get_or bankForm.header place (record { from = 0; to = 0 })) b)
-    (cond (eqb place 4103) (in_row bankForm.last b) true)
+unfoldable pub is_right : ℕ → ℕ → Bool
+is_right place b =
+    cond (ltb place 6) (in_row (get_or bank_form.header place (record { from = 0; to = 0 })) b)
+    (cond (eqb place 4103) (in_row bank_form.last b) true)
 
 -- what is kept of it: the third byte, or 255 once another one was wrong
-unfoldable pub frameWith : ℕ → ℕ → ℕ → ℕ
-frameWith place frame b = cond (eqb place 2) (cond (eqb frame 255) 255 b) (cond (isRight place b) frame 255)
+unfoldable pub frame_with : ℕ → ℕ → ℕ → ℕ
+frame_with place frame b = cond (eqb place 2) (cond (eqb frame 255) 255 b) (cond (is_right place b) frame 255)
 
 -- THE SUM with the bytes of a patch more: modulo 128, and 128 more once a byte was above 127
-unfoldable pub summedWith : ℕ → List ℕ → ℕ
-summedWith sum bytes = cond (leb sum 127 && leb (largestOf bytes) 127) 0 128 + (sum + total bytes) % 128
+unfoldable pub summed_with : ℕ → List ℕ → ℕ
+summed_with sum bytes = cond (leb sum 127 && leb (largest_of bytes) 127) 0 128 + (sum + total bytes) % 128
 
 -- what the checksum leaves of it: 0 where it completes the sum, and never 0 where it is above 127
-unfoldable pub checkedWith : ℕ → ℕ → ℕ
-checkedWith sum c = cond (leb sum 127) 0 128 + cond (leb c 127) ((sum + c) % 128) 1
+unfoldable pub checked_with : ℕ → ℕ → ℕ
+checked_with sum c = cond (leb sum 127) 0 128 + cond (leb c 127) ((sum + c) % 128) 1
 
 -- a byte that is no data
 unfoldable pub passed : Receiver → ℕ → Receiver
 passed r b = record {
   count = counting r.count 1;
-  frame = frameWith r.count r.frame b;
-  sum = cond (eqb r.count 4102) (checkedWith r.sum b) r.sum;
+  frame = frame_with r.count r.frame b;
+  sum = cond (eqb r.count 4102) (checked_with r.sum b) r.sum;
   ended = r.ended;
 }
 
-unfoldable pub passedAll : Receiver → List ℕ → Receiver
-passedAll r [] = r
-passedAll r (b ∷ bs) = passedAll (passed r b) bs
+unfoldable pub passed_all : Receiver → List ℕ → Receiver
+passed_all r [] = r
+passed_all r (b ∷ bs) = passed_all (passed r b) bs
 
 -- the reader and the lent buffer, in which the bytes of the patch at hand stand
 pub record Held : Type 0 where
@@ -76,7 +76,7 @@ stored h b = record {
     frame = h.receiver.frame;
     sum =
         cond (eqb (place_in h.receiver.count) 127)
-        (summedWith h.receiver.sum (set h.patch (place_in h.receiver.count) b)) h.receiver.sum;
+        (summed_with h.receiver.sum (set h.patch (place_in h.receiver.count) b)) h.receiver.sum;
     ended = h.receiver.ended;
   };
   patch = set h.patch (place_in h.receiver.count) b;
@@ -88,9 +88,9 @@ came h b =
     cond (leb 6 h.receiver.count && ltb h.receiver.count 4102) (stored h b)
     (record { receiver = passed h.receiver b; patch = h.patch })
 
-unfoldable pub cameAll : Held → List ℕ → Held
-cameAll h [] = h
-cameAll h (b ∷ bs) = cameAll (came h b) bs
+unfoldable pub came_all : Held → List ℕ → Held
+came_all h [] = h
+came_all h (b ∷ bs) = came_all (came h b) bs
 
 -- how many bytes are missing up to the end of the patch at hand, before the first patch those of the frame too
 unfoldable pub missing : ℕ → ℕ
@@ -115,12 +115,12 @@ took r piece patch = record {
   taken = record {
     number = 0;
     receiver =
-        (cameAll (record { receiver = r; patch = patch }) (take (takes r.count (length piece)) piece)).receiver;
+        (came_all (record { receiver = r; patch = patch }) (take (takes r.count (length piece)) piece)).receiver;
     taken = takes r.count (length piece);
     complete = completes r.count (length piece);
     slot = cond (completes r.count (length piece)) (slot_at r.count) 0;
   };
-  patch = (cameAll (record { receiver = r; patch = patch }) (take (takes r.count (length piece)) piece)).patch;
+  patch = (came_all (record { receiver = r; patch = patch }) (take (takes r.count (length piece)) piece)).patch;
 }
 
 -- A PIECE: 9 for a reader that has ended or is not possible, and nothing changes

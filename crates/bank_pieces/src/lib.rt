@@ -3,8 +3,8 @@
 // every piece and every buffer. Numbers given back: 9 a reader that has ended, or that no pieces leave so; at the end
 // 10 wrong length, 11 wrong frame byte, 12 data byte above 127, 13 wrong checksum.
 ghost use Rattle.std.specs.Prelude.{◌≡◌, true, false, ◌+◌, ◌-◌, ◌≤◌, ◌<◌, min, length};
-ghost use Rattle.bank_pieces.specs.Pieces.{fresh, possible, isRight, frameWith, summedWith, checkedWith};
-ghost use Rattle.bank_pieces.specs.Pieces.{passed, passedAll, place_in, slot_at, took, take_of, end_of, closing};
+ghost use Rattle.bank_pieces.specs.Pieces.{fresh, possible, is_right, frame_with, summed_with, checked_with};
+ghost use Rattle.bank_pieces.specs.Pieces.{passed, passed_all, place_in, slot_at, took, take_of, end_of, closing};
 
 // A reader between two pieces. How many bytes came: the count stops at the largest number. The frame: the third byte
 // once it came, or 255 once another byte of the frame was wrong. The sum of the patches reported, modulo 128, and 128
@@ -75,7 +75,7 @@ fn counted(count: usize, more: usize) -> usize
 
 // Whether a byte is right at its place, which outside the frame every byte is.
 fn is_right(place: usize, b: u8) -> bool
-    ensures { result ≡ isRight place b }
+    ensures { result ≡ is_right place b }
 {
     let form = bank::bank_form();
     if place < 6 {
@@ -90,7 +90,7 @@ fn is_right(place: usize, b: u8) -> bool
 
 // What a byte that is no data leaves of the frame.
 fn frame_with(place: usize, frame: u8, b: u8) -> u8
-    ensures { result ≡ frameWith place frame b }
+    ensures { result ≡ frame_with place frame b }
 {
     if place == 2 {
         if frame == 255 {
@@ -103,7 +103,7 @@ fn frame_with(place: usize, frame: u8, b: u8) -> u8
 
 // The sum with a patch more.
 fn summed_with(sum: u8, patch: &[u8]) -> u8
-    ensures { result ≡ summedWith sum patch.now }
+    ensures { result ≡ summed_with sum patch.now }
 {
     let t = dump::tally(patch);
     let low = (sum % 128 + t.sum) % 128;
@@ -118,7 +118,7 @@ fn summed_with(sum: u8, patch: &[u8]) -> u8
 
 // What the checksum leaves of the sum: 0 if it completes it.
 fn checked_with(sum: u8, c: u8) -> u8
-    ensures { result ≡ checkedWith sum c }
+    ensures { result ≡ checked_with sum c }
 {
     let high = sum / 128 * 128;
     if c > 127 {
@@ -151,7 +151,7 @@ fn pass(r: Receiver, b: u8) -> Receiver
 
 // Bytes that are no data, one after the other.
 fn pass_all(receiver: Receiver, bytes: &[u8]) -> Receiver
-    ensures { result ≡ passedAll receiver bytes.now }
+    ensures { result ≡ passed_all receiver bytes.now }
 {
     let mut r = receiver;
     let mut i = 0usize;
@@ -254,7 +254,7 @@ fn up_to(place: usize, count: usize) -> usize
 // The bytes behind the data: the checksum, the last byte, and what is too much, which is only counted.
 fn pass_rest(r: Receiver, piece: &[u8]) -> Receiver
     requires { 4102 ≤ r.count }
-    ensures { result ≡ passedAll r piece.now }
+    ensures { result ≡ passed_all r piece.now }
 {
     let n = least(up_to(4104, r.count), piece.len());
     let q = pass_all(r, &piece[..n]);

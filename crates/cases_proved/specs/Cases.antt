@@ -3,32 +3,32 @@
 use Rattle.std.specs.Prelude.{◌≡◌, List, [], ◌∷◌, ◌++◌, ℕ, ◌^◌, negsuc, Float, true, false, length, take}
 use Prim.Native.String.{String}
 use Rattle.std.specs.Float.{nan, fin}
-use Rattle.numbers.specs.F32.{decimal, minusDecimal}
+use Rattle.numbers.specs.F32.{decimal, minus_decimal}
 use Rattle.dx_units.specs.declared.Level.{Level}
 use Rattle.dx_units.specs.declared.Level.TheVariants as level
 use Rattle.dx_units.specs.declared.Converted.{Converted}
 use Rattle.dx_units.specs.declared.Converted.TheVariants as converted
-use Rattle.dx_units.specs.Answers.{operatorLevelAnswer, operatorEnvelopeIncrementAnswer}
+use Rattle.dx_units.specs.Answers.{operator_level_answer, operator_envelope_increment_answer}
 use Rattle.dx_units_step.specs.declared.Mark.{Mark}
 use Rattle.dx_units_step.specs.declared.Mark.TheVariants.{AsAsked, HeldAtTop, HeldAtZero}
-use Rattle.dx_units_step.specs.Step.{steppedFor}
+use Rattle.dx_units_step.specs.Step.{stepped_for}
 use Rattle.algorithms.specs.Plan.{refusal, planned}
 use Rattle.algorithms.specs.Table.{six}
 use Rattle.algorithms.specs.declared.Call.{Call}
 use Rattle.algorithms.specs.declared.Planned.{Planned}
 use Rattle.operator.specs.declared.Lane.{Lane}
 use Rattle.operator.specs.Sample.{moved}
-use Rattle.plan_text.specs.Text.{planText}
+use Rattle.plan_text.specs.Text.{plan_text}
 use Rattle.refusals.specs.Refusals.{letters}
 
 -- a kind of row: what is given, and the answer that is to come
 pub data Case : Type 0 where
-  operatorLevel : ℕ → Level → Case
-  envelopeRate : ℕ → Converted → Case
+  operator_level : ℕ → Level → Case
+  envelope_rate_of : ℕ → Converted → Case
   step : Float → ℕ → Mark → Case
-  phaseMoved : ℕ → ℕ → ℕ → Case
-  rowAccepted : List ℕ → List Call → List String → Case
-  rowRefused : List ℕ → ℕ → ℕ → Case
+  phase_moved : ℕ → ℕ → ℕ → Case
+  row_accepted : List ℕ → List Call → List String → Case
+  row_refused : List ℕ → ℕ → ℕ → Case
 
 -- what a row is compiled to
 abbrev pub plan_of : List ℕ → Planned
@@ -46,16 +46,16 @@ text_of (line ∷ lines) = letters line ++ (10 ∷ text_of lines)
 
 -- what a row says; of an operator's phase, whatever its amplitude
 abbrev pub Holds : Case → Type 0
-Holds (operatorLevel n answer) = operatorLevelAnswer n ≡ answer
-Holds (envelopeRate n answer) = operatorEnvelopeIncrementAnswer n ≡ answer
-Holds (step frequency answer mark) = steppedFor frequency ≡ record { step = answer; mark = mark }
-Holds (phaseMoved phase by answer) =
+Holds (operator_level n answer) = operator_level_answer n ≡ answer
+Holds (envelope_rate_of n answer) = operator_envelope_increment_answer n ≡ answer
+Holds (step frequency answer mark) = stepped_for frequency ≡ record { step = answer; mark = mark }
+Holds (phase_moved phase by answer) =
     (amplitude increment : Float) → (moved (lane phase by amplitude increment)).phase ≡ answer
-Holds (rowAccepted row calls lines) =
+Holds (row_accepted row calls lines) =
     ((plan_of row).number ≡ 0)
     × (take (plan_of row).plan.count (plan_of row).plan.calls ≡ calls)
-    × (planText row ≡ text_of lines)
-Holds (rowRefused row number at) = plan_of row ≡ refusal number at
+    × (plan_text row ≡ text_of lines)
+Holds (row_refused row number at) = plan_of row ≡ refusal number at
 
 -- every row of a list holds
 abbrev pub AllHold : List Case → Type 0
@@ -82,20 +82,20 @@ printed =
 
 abbrev pub cases : List Case
 cases =
-    operatorLevel 0 (level.Value 0)  -- P1
-    ∷ operatorLevel 14 (level.Value 38)  -- P2
-    ∷ operatorLevel 15 (level.Value 42)  -- P3
-    ∷ operatorLevel 20 (level.Value 48)  -- P4
-    ∷ operatorLevel 99 (level.Value 127)  -- P5
-    ∷ envelopeRate 0 (converted.Value (fin false 1 (negsuc 19)))  -- P6: 2 ^ -20
-    ∷ envelopeRate 99 (converted.Value (decimal 546875 7))  -- P7
+    operator_level 0 (level.Value 0)  -- P1
+    ∷ operator_level 14 (level.Value 38)  -- P2
+    ∷ operator_level 15 (level.Value 42)  -- P3
+    ∷ operator_level 20 (level.Value 48)  -- P4
+    ∷ operator_level 99 (level.Value 127)  -- P5
+    ∷ envelope_rate_of 0 (converted.Value (fin false 1 (negsuc 19)))  -- P6: 2 ^ -20
+    ∷ envelope_rate_of 99 (converted.Value (decimal 546875 7))  -- P7
     ∷ step (decimal 5 1) (2 ^ 31) AsAsked  -- P8
     ∷ step (decimal 75 2) (2 ^ 31) HeldAtTop  -- P9
-    ∷ step (minusDecimal 25 2) 0 HeldAtZero  -- P10
+    ∷ step (minus_decimal 25 2) 0 HeldAtZero  -- P10
     ∷ step nan (2 ^ 31) HeldAtTop  -- P11
-    ∷ phaseMoved (2 ^ 31) (2 ^ 31) 0  -- P12
-    ∷ rowAccepted (0x71 ∷ 0x14 ∷ 0x01 ∷ 0x14 ∷ [])  -- P13
+    ∷ phase_moved (2 ^ 31) (2 ^ 31) 0  -- P12
+    ∷ row_accepted (0x71 ∷ 0x14 ∷ 0x01 ∷ 0x14 ∷ [])  -- P13
     (sets 0 1 3 1 ∷ adds 1 1 1 0 ∷ sets 2 1 0 1 ∷ adds 3 1 1 0 ∷ []) printed
-    ∷ rowRefused (0x31 ∷ 0x11 ∷ 0x54 ∷ 0x04 ∷ []) 3 0  -- P14
-    ∷ rowRefused (0x11 ∷ 0x01 ∷ 0x11 ∷ 0x14 ∷ []) 4 0  -- P15
+    ∷ row_refused (0x31 ∷ 0x11 ∷ 0x54 ∷ 0x04 ∷ []) 3 0  -- P14
+    ∷ row_refused (0x11 ∷ 0x01 ∷ 0x11 ∷ 0x14 ∷ []) 4 0  -- P15
     ∷ []

@@ -2,8 +2,8 @@
 // is what specs/Dump says, for sound and damaged dumps alike. Numbers given back: 10 wrong length, 11 wrong frame byte,
 // 12 data byte above 127, 13 wrong checksum.
 ghost use Rattle.std.specs.Prelude.{◌≡◌, ◌+◌, ◌≤◌, ◌%◌, max, length};
-ghost use Rattle.dump.specs.Dump.{in_row, inRows, fixed, yamahaForm, framed, total, largestOf, checksumOf};
-ghost use Rattle.dump.specs.Dump.{dumpNumber, opened_of};
+ghost use Rattle.dump.specs.Dump.{in_row, in_rows, fixed, yamaha_form, framed, total, largest_of, checksum_of};
+ghost use Rattle.dump.specs.Dump.{dump_number, opened_of};
 
 // A byte of a frame: the least and the largest number that may stand there.
 #[derive(Drop)]
@@ -38,7 +38,7 @@ fn fixed(b: u8) -> Row
 // Yamaha's form: a format's number, and the length of its data, which the header has in two bytes of seven bits. The
 // third byte is the channel's, 00 to 0F.
 pub fn yamaha_form(format: u8, count: usize) -> Form
-    ensures { result ≡ yamahaForm format count }
+    ensures { result ≡ yamaha_form format count }
 {
     let channel = Row {
         from: 0x00,
@@ -73,7 +73,7 @@ fn larger(a: u8, b: u8) -> u8
 }
 
 pub fn tally(s: &[u8]) -> Tallied
-    ensures { (result.sum ≡ total s.now % 128) × (result.largest ≡ largestOf s.now) }
+    ensures { (result.sum ≡ total s.now % 128) × (result.largest ≡ largest_of s.now) }
 {
     let mut sum = 0u8;
     let mut largest = 0u8;
@@ -89,7 +89,7 @@ pub fn tally(s: &[u8]) -> Tallied
 
 // The checksum of data bytes: with it their sum is 0 modulo 128.
 pub fn checksum(s: &[u8]) -> u8
-    ensures { result ≡ checksumOf s.now }
+    ensures { result ≡ checksum_of s.now }
 {
     let t = tally(s);
     (128 - t.sum) % 128
@@ -105,7 +105,7 @@ pub fn in_row(row: Row, b: u8) -> bool
 // Whether the first bytes do, one for each row.
 fn in_rows(dump: &[u8], rows: [Row; 6]) -> bool
     requires { 6 ≤ length dump.now }
-    ensures { result ≡ inRows rows dump.now 0 }
+    ensures { result ≡ in_rows rows dump.now 0 }
 {
     let mut right = true;
     let mut i = 0usize;
@@ -128,7 +128,7 @@ fn framed_right(dump: &[u8], form: Form) -> bool
 
 // The number of a dump of a form.
 pub fn number(dump: &[u8], form: Form) -> u8
-    ensures { result ≡ dumpNumber form dump.now }
+    ensures { result ≡ dump_number form dump.now }
 {
     if dump.len() < 8 {
         return 10;

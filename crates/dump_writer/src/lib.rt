@@ -1,13 +1,13 @@
 // The writer of dumps, of every form: the frame and the checksum around some data. Added by us: no Rust file. Helpers: a
 // caller has data and a buffer of the form's lengths; what they answer is in specs/Written.
 ghost use Rattle.std.specs.Prelude.{◌≡◌, ◌+◌, length};
-ghost use Rattle.dump_writer.specs.Written.{headerOf, written_of};
+ghost use Rattle.dump_writer.specs.Written.{header_of, written_of};
 
 use dump::Form;
 
 // The six bytes before the data, on a channel.
 fn header(form: Form, channel: u8) -> [u8; 6]
-    ensures { result ≡ headerOf form channel }
+    ensures { result ≡ header_of form channel }
 {
     let rows = form.header;
     let first = rows[0];

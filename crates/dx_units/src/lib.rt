@@ -3,12 +3,12 @@
 // (7), and its promise names the answer for every input. The conversions themselves, for callers that have checked
 // their fields, and what each is about, are in `dx_units_inner`.
 ghost use Rattle.std.specs.Prelude.{◌≡◌};
-ghost use Rattle.dx_units.specs.Answers.{operatorLevelAnswer, pitchEnvelopeLevelAnswer};
-ghost use Rattle.dx_units.specs.Answers.{operatorEnvelopeIncrementAnswer, pitchEnvelopeIncrementAnswer};
-ghost use Rattle.dx_units.specs.Answers.{lfoFrequencyAnswer, lfoDelayAnswer, normalizeVelocityAnswer};
-ghost use Rattle.dx_units.specs.Answers.{rateScalingAnswer, ampModSensitivityAnswer};
-ghost use Rattle.dx_units.specs.Answers.{pitchModSensitivityAnswer, keyboardScalingAnswer};
-ghost use Rattle.dx_units.specs.Answers.{frequencyRatioAnswer, frequencyFits};
+ghost use Rattle.dx_units.specs.Answers.{operator_level_answer, pitch_envelope_level_answer};
+ghost use Rattle.dx_units.specs.Answers.{operator_envelope_increment_answer, pitch_envelope_increment_answer};
+ghost use Rattle.dx_units.specs.Answers.{lfo_frequency_answer, lfo_delay_answer, normalize_velocity_answer};
+ghost use Rattle.dx_units.specs.Answers.{rate_scaling_answer, amp_mod_sensitivity_answer};
+ghost use Rattle.dx_units.specs.Answers.{pitch_mod_sensitivity_answer, keyboard_scaling_answer};
+ghost use Rattle.dx_units.specs.Answers.{frequency_ratio_answer, frequency_fits};
 
 pub use dx_units_inner::{Increments, Ratio, level_chart, lut_coarse, lut_cube_root};
 pub use dx_units_power::pow_2_fast;
@@ -45,7 +45,7 @@ pub enum Tuning {
 
 // An operator level from 0 to 99 as the complement of the chip's total level.
 pub fn operator_level(level: u8) -> Level
-    ensures { result ≡ operatorLevelAnswer level }
+    ensures { result ≡ operator_level_answer level }
 {
     if level > largest::WHOLE {
         return Level::Refused(6);
@@ -56,7 +56,7 @@ pub fn operator_level(level: u8) -> Level
 
 // A pitch envelope's level from 0 to 99 in octaves: 18 is one down, 50 none, 82 one up.
 pub fn pitch_envelope_level(level: u8) -> Converted
-    ensures { result ≡ pitchEnvelopeLevelAnswer level }
+    ensures { result ≡ pitch_envelope_level_answer level }
 {
     if level > largest::WHOLE {
         return Converted::Refused(6);
@@ -66,7 +66,7 @@ pub fn pitch_envelope_level(level: u8) -> Converted
 
 // An operator envelope's rate from 0 to 99 as a frequency.
 pub fn operator_envelope_increment(rate: u8) -> Converted
-    ensures { result ≡ operatorEnvelopeIncrementAnswer rate }
+    ensures { result ≡ operator_envelope_increment_answer rate }
 {
     if rate > largest::WHOLE {
         return Converted::Refused(6);
@@ -76,7 +76,7 @@ pub fn operator_envelope_increment(rate: u8) -> Converted
 
 // A pitch envelope's rate from 0 to 99 as a frequency.
 pub fn pitch_envelope_increment(rate: u8) -> Converted
-    ensures { result ≡ pitchEnvelopeIncrementAnswer rate }
+    ensures { result ≡ pitch_envelope_increment_answer rate }
 {
     if rate > largest::WHOLE {
         return Converted::Refused(6);
@@ -86,7 +86,7 @@ pub fn pitch_envelope_increment(rate: u8) -> Converted
 
 // An LFO's rate from 0 to 99 as a frequency.
 pub fn lfo_frequency(rate: u8) -> Converted
-    ensures { result ≡ lfoFrequencyAnswer rate }
+    ensures { result ≡ lfo_frequency_answer rate }
 {
     if rate > largest::WHOLE {
         return Converted::Refused(6);
@@ -96,7 +96,7 @@ pub fn lfo_frequency(rate: u8) -> Converted
 
 // An LFO's delay from 0 to 99 as two increments.
 pub fn lfo_delay(delay: u8) -> Delay
-    ensures { result ≡ lfoDelayAnswer delay }
+    ensures { result ≡ lfo_delay_answer delay }
 {
     if delay > largest::WHOLE {
         return Delay::Refused(6);
@@ -106,7 +106,7 @@ pub fn lfo_delay(delay: u8) -> Delay
 
 // A velocity from 0 to 1, made ready for its scaling.
 pub fn normalize_velocity(velocity: f32) -> Converted
-    ensures { result ≡ normalizeVelocityAnswer velocity }
+    ensures { result ≡ normalize_velocity_answer velocity }
 {
     if patch_limits::unit_fits(velocity) {
         return Converted::Value(dx_units_inner::normalize_velocity(velocity));
@@ -116,7 +116,7 @@ pub fn normalize_velocity(velocity: f32) -> Converted
 
 // The ratio of an envelope's increments at a note from 0 to 127.
 pub fn rate_scaling(note: f32, scaling: u8) -> Converted
-    ensures { result ≡ rateScalingAnswer note scaling }
+    ensures { result ≡ rate_scaling_answer note scaling }
 {
     if scaling > largest::RATE_SCALING {
         return Converted::Refused(6);
@@ -129,7 +129,7 @@ pub fn rate_scaling(note: f32, scaling: u8) -> Converted
 
 // An operator's amplitude modulation sensitivity, from 0 to 3.
 pub fn amp_mod_sensitivity(sensitivity: u8) -> Converted
-    ensures { result ≡ ampModSensitivityAnswer sensitivity }
+    ensures { result ≡ amp_mod_sensitivity_answer sensitivity }
 {
     if sensitivity > largest::AMP_MOD_SENSITIVITY {
         return Converted::Refused(6);
@@ -139,7 +139,7 @@ pub fn amp_mod_sensitivity(sensitivity: u8) -> Converted
 
 // The pitch modulation sensitivity, from 0 to 7.
 pub fn pitch_mod_sensitivity(sensitivity: u8) -> Converted
-    ensures { result ≡ pitchModSensitivityAnswer sensitivity }
+    ensures { result ≡ pitch_mod_sensitivity_answer sensitivity }
 {
     if sensitivity > largest::LFO_SENSITIVITY {
         return Converted::Refused(6);
@@ -150,7 +150,7 @@ pub fn pitch_mod_sensitivity(sensitivity: u8) -> Converted
 // The level's change at a note, by the side of the break point on which it lies. All five numbers are checked, used or
 // not.
 pub fn keyboard_scaling(note: f32, scaling: KeyboardScaling) -> Converted
-    ensures { result ≡ keyboardScalingAnswer note scaling }
+    ensures { result ≡ keyboard_scaling_answer note scaling }
 {
     if !patch_limits::scaling_fits(scaling) {
         return Converted::Refused(6);
@@ -170,7 +170,7 @@ pub fn keyboard_scaling(note: f32, scaling: KeyboardScaling) -> Converted
 
 // An operator's frequency: a ratio to the note's, or to 1 Hz. Rust has a sign in place of the cases.
 pub fn frequency_ratio(mode: u8, coarse: u8, fine: u8, detune: u8) -> Tuning
-    ensures { result ≡ frequencyRatioAnswer mode coarse fine detune }
+    ensures { result ≡ frequency_ratio_answer mode coarse fine detune }
 {
     if !frequency_fits(mode, coarse, fine, detune) {
         return Tuning::Refused(6);
@@ -182,7 +182,7 @@ pub fn frequency_ratio(mode: u8, coarse: u8, fine: u8, detune: u8) -> Tuning
 
 // Whether a frequency's numbers are at most their largest.
 fn frequency_fits(mode: u8, coarse: u8, fine: u8, detune: u8) -> bool
-    ensures { result ≡ frequencyFits mode coarse fine detune }
+    ensures { result ≡ frequency_fits mode coarse fine detune }
 {
     (mode <= largest::MODE)
         & (coarse <= largest::COARSE)

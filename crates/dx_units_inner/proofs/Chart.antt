@@ -8,27 +8,27 @@ use lib.Dec.{T, eqb, leb, eqb→eq, leb→le}
 use lib.ListN.{get_or}
 use lib.Ieee.Fits.{and_l, and_r}
 use Rattle.numbers.proofs.Below.{all_below, at_each}
-use Rattle.dx_units_inner.specs.Tables.{levelChart}
-use Rattle.dx_units_inner.specs.Units.{operatorLevel}
+use Rattle.dx_units_inner.specs.Tables.{level_chart}
+use Rattle.dx_units_inner.specs.Units.{operator_level}
 
 abbrev agrees : ℕ → Bool
-agrees level = eqb (get_or levelChart level 0) (operatorLevel level)
+agrees level = eqb (get_or level_chart level 0) (operator_level level)
 
 abbrev held : ℕ → Bool
-held level = leb (operatorLevel level) 127
+held level = leb (operator_level level) 127
 
 -- the test
-all-agree : T (all_below (λ level. agrees level && held level) 100)
-unfolding all_below levelChart operatorLevel
-all-agree = tt
+all_agree : T (all_below (λ level. agrees level && held level) 100)
+unfolding all_below level_chart operator_level
+all_agree = tt
 
 module _ (level : ℕ) (h : level ≤ 99) where
   tested : T (agrees level && held level)
-  tested = at_each (λ i. agrees i && held i) 100 all-agree level (omega arith)
+  tested = at_each (λ i. agrees i && held i) 100 all_agree level (omega arith)
 
-  pub chart-agrees : get_or levelChart level 0 ≡ operatorLevel level
-  chart-agrees = eqb→eq (get_or levelChart level 0) (operatorLevel level) (and_l (agrees level) (held level) tested)
+  pub chart_agrees : get_or level_chart level 0 ≡ operator_level level
+  chart_agrees = eqb→eq (get_or level_chart level 0) (operator_level level) (and_l (agrees level) (held level) tested)
 
   -- so the headroom, 127 less the level, is no negative number
-  pub level-at-most-127 : operatorLevel level ≤ 127
-  level-at-most-127 = leb→le (operatorLevel level) 127 (and_r (agrees level) (held level) tested)
+  pub level_at_most_127 : operator_level level ≤ 127
+  level_at_most_127 = leb→le (operator_level level) 127 (and_r (agrees level) (held level) tested)

@@ -14,142 +14,142 @@ use Rattle.numbers.specs.F32.{◌⊕◌, ◌⊖◌, ◌⊗◌, ◌⊘◌, decima
 use Rattle.numbers.specs.Extremes.{minimum, maximum, magnitude}
 use Rattle.numbers.specs.Words.{shifted32}
 use Rattle.utils.specs.Interpolate.{interpolated}
-use Rattle.units.specs.Ratio.{ratioOf}
+use Rattle.units.specs.Ratio.{ratio_of}
 use Rattle.dx_units_inner.specs.declared.Increments.{Increments}
 use Rattle.dx_units_inner.specs.declared.Ratio.TheVariants.{Note, Hertz}
-use Rattle.dx_units_inner.specs.Tables.{lutCubeRoot}
-use Rattle.dx_units_inner.specs.Units.{pitchEnvelopeLevel, operatorEnvelopeIncrement, lfoSteps}
-use Rattle.dx_units_inner.specs.Units.{lfoFrequency, delaySteps, lfoDelay, normalizedVelocity, bent, sideScaling}
-use Rattle.dx_units_inner.specs.Units.{keyboardScaling, coarseSemitones, baseSemitones, fineFactor}
-use Rattle.dx_units_inner.specs.Units.{frequencyRatio}
+use Rattle.dx_units_inner.specs.Tables.{lut_cube_root}
+use Rattle.dx_units_inner.specs.Units.{pitch_envelope_level, operator_envelope_increment, lfo_steps}
+use Rattle.dx_units_inner.specs.Units.{lfo_frequency, delay_steps, lfo_delay, normalized_velocity_of, bent, side_scaling}
+use Rattle.dx_units_inner.specs.Units.{keyboard_scaling_of, coarse_semitones, base_semitones, fine_factor}
+use Rattle.dx_units_inner.specs.Units.{frequency_ratio}
 
 -- ---- levels
 
-pub pitch-level : (level : ℕ) {a t : Float}
+pub pitch_level : (level : ℕ) {a t : Float}
     → a ≡ magnitude ((as_float level ⊖ decimal 50 0) ⊘ decimal 32 0 ⊕ decimal 2 2)
     → t ≡ maximum (a ⊖ decimal 1 0) (decimal 0 0)
-    → (as_float level ⊖ decimal 50 0) ⊘ decimal 32 0 ⊗ (decimal 1 0 ⊕ t ⊗ t ⊗ decimal 53056 4) ≡ pitchEnvelopeLevel level
-unfolding pitchEnvelopeLevel
-pitch-level level ea et = simp (et, ea)
+    → (as_float level ⊖ decimal 50 0) ⊘ decimal 32 0 ⊗ (decimal 1 0 ⊕ t ⊗ t ⊗ decimal 53056 4) ≡ pitch_envelope_level level
+unfolding pitch_envelope_level
+pitch_level level ea et = simp (et, ea)
 
 -- ---- rates
 
 pub increment : (rate : ℕ) {b : ℕ} {n m : ℤ} {v : Float}
     → b ≡ shifted32 (4 + rate * 41 / 64 % 4) (2 + rate * 41 / 64 / 4) → n ≡ to_z w32 b → m ≡ n → v ≡ of_int binary32 m
-    → v ⊘ decimal 16777216 0 ≡ operatorEnvelopeIncrement rate
-unfolding operatorEnvelopeIncrement
+    → v ⊘ decimal 16777216 0 ≡ operator_envelope_increment rate
+unfolding operator_envelope_increment
 increment rate eb en em ev = simp (ev, em, en, eb)
 
 -- n is the LFO's scaled rate: its product fits
-pub steps-small : (n : ℕ) → n ≤ 657 → n * (11 + (n - 160) / 16) ≤ 657 * 42
-steps-small n h = let b : 11 + (n - 160) / 16 ≤ 42 = omega arith in mul-le-mul h b
+pub steps_small : (n : ℕ) → n ≤ 657 → n * (11 + (n - 160) / 16) ≤ 657 * 42
+steps_small n h = let b : 11 + (n - 160) / 16 ≤ 42 = omega arith in mul-le-mul h b
 
-pub steps-none : (rate : ℕ) → rate ≡ 0 → 11 ≡ lfoSteps rate
-unfolding lfoSteps
-steps-none rate e = simp (eq-eqb rate 0 e)
+pub steps_none : (rate : ℕ) → rate ≡ 0 → 11 ≡ lfo_steps rate
+unfolding lfo_steps
+steps_none rate e = simp (eq-eqb rate 0 e)
 
-pub steps_low : (rate : ℕ) → (rate ≡ 0 → ⊥) → rate * 165 / 64 < 160 → rate * 165 / 64 * 11 ≡ lfoSteps rate
-unfolding lfoSteps
+pub steps_low : (rate : ℕ) → (rate ≡ 0 → ⊥) → rate * 165 / 64 < 160 → rate * 165 / 64 * 11 ≡ lfo_steps rate
+unfolding lfo_steps
 steps_low rate n h = simp (ne_eqb rate 0 n, lt-ltb (rate * 165 / 64) 160 h)
 
 pub steps_high : (rate : ℕ) → (rate ≡ 0 → ⊥) → 160 ≤ rate * 165 / 64
-    → rate * 165 / 64 * (11 + (rate * 165 / 64 - 160) / 16) ≡ lfoSteps rate
-unfolding lfoSteps
+    → rate * 165 / 64 * (11 + (rate * 165 / 64 - 160) / 16) ≡ lfo_steps rate
+unfolding lfo_steps
 steps_high rate n h = simp (ne_eqb rate 0 n, le-ltb (rate * 165 / 64) 160 h)
 
-pub frequency : (rate : ℕ) {n : ℕ} {v : Float} → n ≡ lfoSteps rate → v ≡ as_float n
-    → v ⊗ decimal 5865 6 ≡ lfoFrequency rate
-unfolding lfoFrequency
+pub frequency : (rate : ℕ) {n : ℕ} {v : Float} → n ≡ lfo_steps rate → v ≡ as_float n
+    → v ⊗ decimal 5865 6 ≡ lfo_frequency rate
+unfolding lfo_frequency
 frequency rate en ev = simp (ev, en)
 
 -- ---- the LFO's delay
 
-pub delay-none : (delay : ℕ) → delay ≡ 0 → ◌≡◌ {A =
-    Increments} (record { first = decimal 100000 0; second = decimal 100000 0 }) (lfoDelay delay)
-unfolding lfoDelay
-delay-none delay e = simp (eq-eqb delay 0 e)
+pub delay_none : (delay : ℕ) → delay ≡ 0 → ◌≡◌ {A =
+    Increments} (record { first = decimal 100000 0; second = decimal 100000 0 }) (lfo_delay delay)
+unfolding lfo_delay
+delay_none delay e = simp (eq-eqb delay 0 e)
 
-pub delay-some : (delay : ℕ) {d k : ℕ} {v w : Float} → (delay ≡ 0 → ⊥) → d ≡ delaySteps delay
+pub delay_some : (delay : ℕ) {d k : ℕ} {v w : Float} → (delay ≡ 0 → ⊥) → d ≡ delay_steps delay
     → k ≡ max 128 (d / 128 % 512 * 128) → v ≡ as_float d → w ≡ as_float k
-    → ◌≡◌ {A = Increments} (record { first = v ⊗ decimal 5865 6; second = w ⊗ decimal 5865 6 }) (lfoDelay delay)
-unfolding lfoDelay
-delay-some delay n ed ek ev ew = simp (ne_eqb delay 0 n, ev, ew, ek, ed)
+    → ◌≡◌ {A = Increments} (record { first = v ⊗ decimal 5865 6; second = w ⊗ decimal 5865 6 }) (lfo_delay delay)
+unfolding lfo_delay
+delay_some delay n ed ek ev ew = simp (ne_eqb delay 0 n, ev, ew, ek, ed)
 
 -- ---- velocity and rate scaling
 
-pub velocity : (v : Float) {m r : Float} → m ≡ minimum v (decimal 99 2) → r ≡ interpolated lutCubeRoot m (decimal 16 0)
-    → decimal 16 0 ⊗ (r ⊖ decimal 918 3) ≡ normalizedVelocity v
-unfolding normalizedVelocity
+pub velocity : (v : Float) {m r : Float} → m ≡ minimum v (decimal 99 2) → r ≡ interpolated lut_cube_root m (decimal 16 0)
+    → decimal 16 0 ⊗ (r ⊖ decimal 918 3) ≡ normalized_velocity_of v
+unfolding normalized_velocity_of
 velocity v em er = simp (er, em)
 
 -- ---- keyboard scaling
 
 module _ (t u : Float) (curve : ℕ) (eu : u ≡ minimum (t ⊗ decimal 10467 6) (decimal 1 0)) where
-  pub bent-one : curve ≡ 1 → u ⊗ u ⊗ u ⊗ decimal 96 0 ≡ bent t curve
+  pub bent_one : curve ≡ 1 → u ⊗ u ⊗ u ⊗ decimal 96 0 ≡ bent t curve
   unfolding bent
-  bent-one e = simp (eq-eqb curve 1 e, eu)
+  bent_one e = simp (eq-eqb curve 1 e, eu)
 
-  pub bent-two : (curve ≡ 1 → ⊥) → curve ≡ 2 → u ⊗ u ⊗ u ⊗ decimal 96 0 ≡ bent t curve
+  pub bent_two : (curve ≡ 1 → ⊥) → curve ≡ 2 → u ⊗ u ⊗ u ⊗ decimal 96 0 ≡ bent t curve
   unfolding bent
-  bent-two n e = simp (ne_eqb curve 1 n, eq-eqb curve 2 e, eu)
+  bent_two n e = simp (ne_eqb curve 1 n, eq-eqb curve 2 e, eu)
 
-pub bent-not : (t : Float) (curve : ℕ) → (curve ≡ 1 → ⊥) → (curve ≡ 2 → ⊥) → t ≡ bent t curve
+pub bent_not : (t : Float) (curve : ℕ) → (curve ≡ 1 → ⊥) → (curve ≡ 2 → ⊥) → t ≡ bent t curve
 unfolding bent
-bent-not t curve n o = simp (ne_eqb curve 1 n, ne_eqb curve 2 o)
+bent_not t curve n o = simp (ne_eqb curve 1 n, ne_eqb curve 2 o)
 
 module _ (x : Float) (curve depth : ℕ) {a t : Float} (ea : a ≡ magnitude x) (et : t ≡ bent a curve) where
-  pub side-down : curve < 2 → neg t ⊗ as_float depth ⊗ decimal 2677 5 ≡ sideScaling x curve depth
-  unfolding sideScaling
-  side-down h = simp (lt-ltb curve 2 h, et, ea)
+  pub side_down : curve < 2 → neg t ⊗ as_float depth ⊗ decimal 2677 5 ≡ side_scaling x curve depth
+  unfolding side_scaling
+  side_down h = simp (lt-ltb curve 2 h, et, ea)
 
-  pub side-up : 2 ≤ curve → t ⊗ as_float depth ⊗ decimal 2677 5 ≡ sideScaling x curve depth
-  unfolding sideScaling
-  side-up h = simp (le-ltb curve 2 h, et, ea)
+  pub side_up : 2 ≤ curve → t ⊗ as_float depth ⊗ decimal 2677 5 ≡ side_scaling x curve depth
+  unfolding side_scaling
+  side_up h = simp (le-ltb curve 2 h, et, ea)
 
 module _ (note : Float) (leftDepth rightDepth leftCurve rightCurve breakPoint : ℕ) {r : Float} where
-  pub on-right : lt (decimal 0 0) (note ⊖ as_float breakPoint ⊖ decimal 15 0) ≡ true
-      → r ≡ sideScaling (note ⊖ as_float breakPoint ⊖ decimal 15 0) rightCurve rightDepth
-      → r ≡ keyboardScaling note leftDepth rightDepth leftCurve rightCurve breakPoint
-  unfolding keyboardScaling
-  on-right h e = simp h e
+  pub on_right : lt (decimal 0 0) (note ⊖ as_float breakPoint ⊖ decimal 15 0) ≡ true
+      → r ≡ side_scaling (note ⊖ as_float breakPoint ⊖ decimal 15 0) rightCurve rightDepth
+      → r ≡ keyboard_scaling_of note leftDepth rightDepth leftCurve rightCurve breakPoint
+  unfolding keyboard_scaling_of
+  on_right h e = simp h e
 
-  pub on-left : lt (decimal 0 0) (note ⊖ as_float breakPoint ⊖ decimal 15 0) ≡ false
-      → r ≡ sideScaling (note ⊖ as_float breakPoint ⊖ decimal 15 0) leftCurve leftDepth
-      → r ≡ keyboardScaling note leftDepth rightDepth leftCurve rightCurve breakPoint
-  unfolding keyboardScaling
-  on-left h e = simp h e
+  pub on_left : lt (decimal 0 0) (note ⊖ as_float breakPoint ⊖ decimal 15 0) ≡ false
+      → r ≡ side_scaling (note ⊖ as_float breakPoint ⊖ decimal 15 0) leftCurve leftDepth
+      → r ≡ keyboard_scaling_of note leftDepth rightDepth leftCurve rightCurve breakPoint
+  unfolding keyboard_scaling_of
+  on_left h e = simp h e
 
 -- ---- frequency
 
-pub base-note : (mode coarse fine : ℕ) {r : Float} → mode ≡ 0 → r ≡ coarseSemitones coarse
-    → r ≡ baseSemitones mode coarse fine
-unfolding baseSemitones
-base-note mode coarse fine e er = simp (eq-eqb mode 0 e) er
+pub base_note : (mode coarse fine : ℕ) {r : Float} → mode ≡ 0 → r ≡ coarse_semitones coarse
+    → r ≡ base_semitones mode coarse fine
+unfolding base_semitones
+base_note mode coarse fine e er = simp (eq-eqb mode 0 e) er
 
-pub base-hertz : (mode coarse fine : ℕ) → (mode ≡ 0 → ⊥)
-    → as_float (coarse % 4 * 100 + fine) ⊗ decimal 39864 5 ≡ baseSemitones mode coarse fine
-unfolding baseSemitones
-base-hertz mode coarse fine n = simp (ne_eqb mode 0 n)
+pub base_hertz : (mode coarse fine : ℕ) → (mode ≡ 0 → ⊥)
+    → as_float (coarse % 4 * 100 + fine) ⊗ decimal 39864 5 ≡ base_semitones mode coarse fine
+unfolding base_semitones
+base_hertz mode coarse fine n = simp (ne_eqb mode 0 n)
 
-pub factor-fine : (mode fine : ℕ) → mode ≡ 0 → (fine ≡ 0 → ⊥)
-    → decimal 1 0 ⊕ decimal 1 2 ⊗ as_float fine ≡ fineFactor mode fine
-unfolding fineFactor
-factor-fine mode fine e n = simp (eq-eqb mode 0 e, ne_eqb fine 0 n)
+pub factor_fine : (mode fine : ℕ) → mode ≡ 0 → (fine ≡ 0 → ⊥)
+    → decimal 1 0 ⊕ decimal 1 2 ⊗ as_float fine ≡ fine_factor mode fine
+unfolding fine_factor
+factor_fine mode fine e n = simp (eq-eqb mode 0 e, ne_eqb fine 0 n)
 
-pub factor-none : (mode fine : ℕ) → mode ≡ 0 → fine ≡ 0 → decimal 1 0 ≡ fineFactor mode fine
-unfolding fineFactor
-factor-none mode fine e n = simp (eq-eqb mode 0 e, eq-eqb fine 0 n)
+pub factor_none : (mode fine : ℕ) → mode ≡ 0 → fine ≡ 0 → decimal 1 0 ≡ fine_factor mode fine
+unfolding fine_factor
+factor_none mode fine e n = simp (eq-eqb mode 0 e, eq-eqb fine 0 n)
 
-pub factor-hertz : (mode fine : ℕ) → (mode ≡ 0 → ⊥) → decimal 1 0 ≡ fineFactor mode fine
-unfolding fineFactor
-factor-hertz mode fine n = simp (ne_eqb mode 0 n)
+pub factor_hertz : (mode fine : ℕ) → (mode ≡ 0 → ⊥) → decimal 1 0 ≡ fine_factor mode fine
+unfolding fine_factor
+factor_hertz mode fine n = simp (ne_eqb mode 0 n)
 
-module _ (high low : List Float) (mode coarse fine detune : ℕ) {b r f : Float} (eb : b ≡ baseSemitones mode coarse fine)
-    (er : r ≡ ratioOf high low (b ⊕ (as_float detune ⊖ decimal 7 0) ⊗ decimal 15 3)) (ef : f ≡ fineFactor mode fine) where
-  pub to-note : mode ≡ 0 → Note (r ⊗ f) ≡ frequencyRatio high low mode coarse fine detune
-  unfolding frequencyRatio
-  to-note e = simp (eq-eqb mode 0 e, er, ef, eb)
+module _ (high low : List Float) (mode coarse fine detune : ℕ) {b r f : Float} (eb : b ≡ base_semitones mode coarse fine)
+    (er : r ≡ ratio_of high low (b ⊕ (as_float detune ⊖ decimal 7 0) ⊗ decimal 15 3)) (ef : f ≡ fine_factor mode fine) where
+  pub to_note : mode ≡ 0 → Note (r ⊗ f) ≡ frequency_ratio high low mode coarse fine detune
+  unfolding frequency_ratio
+  to_note e = simp (eq-eqb mode 0 e, er, ef, eb)
 
-  pub to-hertz : (mode ≡ 0 → ⊥) → Hertz (r ⊗ f) ≡ frequencyRatio high low mode coarse fine detune
-  unfolding frequencyRatio
-  to-hertz n = simp (ne_eqb mode 0 n, er, ef, eb)
+  pub to_hertz : (mode ≡ 0 → ⊥) → Hertz (r ⊗ f) ≡ frequency_ratio high low mode coarse fine detune
+  unfolding frequency_ratio
+  to_hertz n = simp (ne_eqb mode 0 n, er, ef, eb)

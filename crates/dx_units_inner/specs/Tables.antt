@@ -1,12 +1,12 @@
 -- The tables of dx_units.rs, number for number, and the chart of levels. Definitions only.
 use Rattle.std.specs.Prelude.{List, [], ◌∷◌, ℕ, Float}
-use Rattle.numbers.specs.F32.{decimal, minusDecimal}
+use Rattle.numbers.specs.F32.{decimal, minus_decimal}
 
 -- the semitones of each coarse number's ratio: a half for 0, the number itself for the others
-unfoldable pub lutCoarse : List Float
-unfolding decimal minusDecimal
-lutCoarse =
-    minusDecimal 12000000 6 ∷
+unfoldable pub lut_coarse : List Float
+unfolding decimal minus_decimal
+lut_coarse =
+    minus_decimal 12000000 6 ∷
     decimal 0 6 ∷
     decimal 12000000 6 ∷
     decimal 19019550 6 ∷
@@ -41,9 +41,9 @@ lutCoarse =
     []
 
 -- the share of the amplitude modulation for each sensitivity, none to all
-unfoldable pub lutAmpModSensitivity : List Float
+unfoldable pub lut_amp_mod_sensitivity : List Float
 unfolding decimal
-lutAmpModSensitivity =
+lut_amp_mod_sensitivity =
     decimal 0 1 ∷
     decimal 2588 4 ∷
     decimal 4274 4 ∷
@@ -51,9 +51,9 @@ lutAmpModSensitivity =
     []
 
 -- the octaves of the pitch modulation for each sensitivity
-unfoldable pub lutPitchModSensitivity : List Float
+unfoldable pub lut_pitch_mod_sensitivity : List Float
 unfolding decimal
-lutPitchModSensitivity =
+lut_pitch_mod_sensitivity =
     decimal 0 1 ∷
     decimal 781250 7 ∷
     decimal 1562500 7 ∷
@@ -65,9 +65,9 @@ lutPitchModSensitivity =
     []
 
 -- the cube root of each 16th part of 1, ends included
-unfoldable pub lutCubeRoot : List Float
+unfoldable pub lut_cube_root : List Float
 unfolding decimal
-lutCubeRoot =
+lut_cube_root =
     decimal 0 1 ∷
     decimal 39685062976 11 ∷
     decimal 50000000000 11 ∷
@@ -88,8 +88,8 @@ lutCubeRoot =
     []
 
 -- the printed chart: the steps of each level from 0 to 99, ten in a row
-unfoldable pub levelChart : List ℕ
-levelChart =
+unfoldable pub level_chart : List ℕ
+level_chart =
     0 ∷ 4 ∷ 8 ∷ 12 ∷ 16 ∷ 19 ∷ 22 ∷ 25 ∷ 28 ∷ 30 ∷
     32 ∷ 34 ∷ 36 ∷ 37 ∷ 38 ∷ 42 ∷ 43 ∷ 44 ∷ 45 ∷ 46 ∷
     48 ∷ 49 ∷ 50 ∷ 51 ∷ 52 ∷ 53 ∷ 54 ∷ 55 ∷ 56 ∷ 57 ∷

@@ -4,13 +4,13 @@
 // Levels count in steps of an eighth of an octave of amplitude, 0.75 dB. The constants are the Rust's, fitted to the
 // old instrument; where a curve has a jump or a corner, it stays.
 ghost use Rattle.std.specs.Prelude.{◌≡◌, ◌≤◌, max};
-ghost use Rattle.dx_units_inner.specs.Tables.{levelChart, lutCoarse, lutCubeRoot};
-ghost use Rattle.dx_units_inner.specs.Units.{operatorLevel, pitchEnvelopeLevel, operatorEnvelopeIncrement};
-ghost use Rattle.dx_units_inner.specs.Units.{pitchEnvelopeIncrement, lfoSteps, lfoFrequency};
-ghost use Rattle.dx_units_inner.specs.Units.{delaySteps, lfoDelay};
-ghost use Rattle.dx_units_inner.specs.Units.{normalizedVelocity, rateScaling, ampModSensitivity};
-ghost use Rattle.dx_units_inner.specs.Units.{pitchModSensitivity, bent, sideScaling, keyboardScaling};
-ghost use Rattle.dx_units_inner.specs.Units.{coarseSemitones, baseSemitones, fineFactor, frequencyRatio};
+ghost use Rattle.dx_units_inner.specs.Tables.{level_chart, lut_coarse, lut_cube_root};
+ghost use Rattle.dx_units_inner.specs.Units.{operator_level, pitch_envelope_level, operator_envelope_increment};
+ghost use Rattle.dx_units_inner.specs.Units.{pitch_envelope_increment, lfo_steps, lfo_frequency};
+ghost use Rattle.dx_units_inner.specs.Units.{delay_steps, lfo_delay};
+ghost use Rattle.dx_units_inner.specs.Units.{normalized_velocity_of, rate_scaling_of, amp_mod_sensitivity_of};
+ghost use Rattle.dx_units_inner.specs.Units.{pitch_mod_sensitivity_of, bent, side_scaling, keyboard_scaling_of};
+ghost use Rattle.dx_units_inner.specs.Units.{coarse_semitones, base_semitones, fine_factor, frequency_ratio};
 
 mod tables;
 
@@ -32,15 +32,15 @@ pub enum Ratio {
 // 127. It is looked up in the chart, lent by a caller. The Rust computes it: from 20 on a level is one step, so that 99
 // is 127; 15 to 19 lie one step under that line; up to 14 it is a parabola, level * (36 - level) / 8, down to 0.
 pub fn operator_level(chart: &[u8; 100], level: u8) -> u8
-    requires { (level ≤ 99) × (chart.now ≡ levelChart) }
-    ensures { result ≡ operatorLevel level }
+    requires { (level ≤ 99) × (chart.now ≡ level_chart) }
+    ensures { result ≡ operator_level level }
 {
     chart[level as usize]
 }
 
 // The chart whole, to be made a local once and lent: an array's name is a copy of it.
 pub fn level_chart() -> [u8; 100]
-    ensures { result ≡ levelChart }
+    ensures { result ≡ level_chart }
 {
     tables::LEVEL_CHART
 }
@@ -48,7 +48,7 @@ pub fn level_chart() -> [u8; 100]
 // A level from 0 to 99 in octaves: 50 is none and 32 levels are one, so 18 is one down and 82 one up. Past an octave a
 // square makes the way steeper, up to four octaves at 0 and at 99; the 0.02 makes up for the middle, which is not 49.5.
 pub fn pitch_envelope_level(level: u8) -> f32
-    ensures { result ≡ pitchEnvelopeLevel level }
+    ensures { result ≡ pitch_envelope_level level }
 {
     let l = (level as f32 - 50.0) / 32.0;
     let tail = numbers::f32_max(numbers::f32_abs(l + 0.02) - 1.0, 0.0);
@@ -58,7 +58,7 @@ pub fn pitch_envelope_level(level: u8) -> f32
 // A rate from 0 to 99 as octaves of amplitude in a sample at 44,100 Hz: an exponential in straight pieces. 64 steps, of
 // which four double the speed, each a mantissa from 4 to 7 shifted left: from 2^-20 at 0 to 7 / 128 at 99.
 pub fn operator_envelope_increment(rate: u8) -> f32
-    ensures { result ≡ operatorEnvelopeIncrement rate }
+    ensures { result ≡ operator_envelope_increment rate }
 {
     let rate_scaled = (rate as u32 * 41) >> 6;
     let mantissa = 4 + rate_scaled % 4;
@@ -70,7 +70,7 @@ pub fn operator_envelope_increment(rate: u8) -> f32
 // A rate from 0 to 99 as octaves of pitch in a sample at 44,100 Hz: an octave in 21.3 seconds at 0, straight at first,
 // then a fifth power, an octave in 86 ms at 99.
 pub fn pitch_envelope_increment(rate: u8) -> f32
-    ensures { result ≡ pitchEnvelopeIncrement rate }
+    ensures { result ≡ pitch_envelope_increment rate }
 {
     let r = rate as f32 * 0.01;
     (1.0 + 192.0 * r * (r * r * r * r + 0.3333)) / (21.3 * 44100.0)
@@ -78,7 +78,7 @@ pub fn pitch_envelope_increment(rate: u8) -> f32
 
 // A rate from 0 to 99 in Hz, from 0.065 to 23.9: steps of a fixed size, counted below.
 pub fn lfo_frequency(rate: u8) -> f32
-    ensures { result ≡ lfoFrequency rate }
+    ensures { result ≡ lfo_frequency rate }
 {
     numbers::u32_as_f32(lfo_steps(rate)) * 0.005865
 }
@@ -86,7 +86,7 @@ pub fn lfo_frequency(rate: u8) -> f32
 // An LFO's rate in steps of 0.005865 Hz. The rate, stretched to 255, counts eleven of them: a straight line up to 159.
 // From 160 on the factor grows by 1 with every 16. Rate 0 is not still: it counts as the smallest number, 1.
 fn lfo_steps(rate: u8) -> u32
-    ensures { result ≡ lfoSteps rate }
+    ensures { result ≡ lfo_steps rate }
 {
     if rate == 0 {
         return 11;
@@ -101,7 +101,7 @@ fn lfo_steps(rate: u8) -> u32
 // A delay from 0 to 99 as two increments in Hz: the delay's, and the fade's, which is the same in whole 128s of steps,
 // one at least. At 0 both are so large that they are over at once.
 pub fn lfo_delay(delay: u8) -> Increments
-    ensures { result ≡ lfoDelay delay }
+    ensures { result ≡ lfo_delay delay }
 {
     if delay == 0 {
         return Increments {
@@ -120,7 +120,7 @@ pub fn lfo_delay(delay: u8) -> Increments
 // An LFO's delay in steps of 0.005865 Hz, an exponential in straight pieces that falls with the delay: 16 numbers
 // double them. 99 - delay as a byte, its lower half and 16 for a mantissa, its upper half for the shift.
 fn delay_steps(delay: u8) -> u32
-    ensures { result ≡ delaySteps delay }
+    ensures { result ≡ delay_steps delay }
 {
     let d = (355 - delay as u32) % 256;
     numbers::wrapping_shl_u32(16 + d % 16, 1 + (d >> 4))
@@ -136,7 +136,7 @@ fn at_least_128(n: u32) -> u32
 // comes from a table, moved so that 0.77 changes nothing; 0 is 14.7 steps less. Above 0.99 it counts as 0.99, since the
 // table has no entry behind its end.
 pub fn normalize_velocity(velocity: f32) -> f32
-    ensures { result ≡ normalizedVelocity velocity }
+    ensures { result ≡ normalized_velocity_of velocity }
 {
     let lut = tables::LUT_CUBE_ROOT;
     let cube_root = utils::interpolate(&lut, numbers::f32_min(velocity, 0.99), 16.0);
@@ -146,7 +146,7 @@ pub fn normalize_velocity(velocity: f32) -> f32
 // What a note makes of an envelope's increments, as a factor: 1 at note 21, and each 96 notes above double it as often
 // as the scaling, 0 to 7, says. 2^x by straight pieces.
 pub fn rate_scaling(note: f32, scaling: u8) -> f32
-    ensures { result ≡ rateScaling note scaling }
+    ensures { result ≡ rate_scaling_of note scaling }
 {
     dx_units_power::pow_2_fast_1(scaling as f32 * (note * 0.33333 - 7.0) * 0.03125)
 }
@@ -154,7 +154,7 @@ pub fn rate_scaling(note: f32, scaling: u8) -> f32
 // A sensitivity from 0 to 3 as the share of the amplitude modulation that an operator takes.
 pub fn amp_mod_sensitivity(sensitivity: u8) -> f32
     requires { sensitivity ≤ 3 }
-    ensures { result ≡ ampModSensitivity sensitivity }
+    ensures { result ≡ amp_mod_sensitivity_of sensitivity }
 {
     tables::LUT_AMP_MOD_SENSITIVITY[sensitivity as usize]
 }
@@ -162,7 +162,7 @@ pub fn amp_mod_sensitivity(sensitivity: u8) -> f32
 // A sensitivity from 0 to 7 as the octaves from the LFO's lowest value to its highest, at full depth.
 pub fn pitch_mod_sensitivity(sensitivity: u8) -> f32
     requires { sensitivity ≤ 7 }
-    ensures { result ≡ pitchModSensitivity sensitivity }
+    ensures { result ≡ pitch_mod_sensitivity_of sensitivity }
 {
     tables::LUT_PITCH_MOD_SENSITIVITY[sensitivity as usize]
 }
@@ -177,7 +177,7 @@ pub fn keyboard_scaling(
     right_curve: u8,
     break_point: u8,
 ) -> f32
-    ensures { result ≡ keyboardScaling note left_depth right_depth left_curve right_curve break_point }
+    ensures { result ≡ keyboard_scaling_of note left_depth right_depth left_curve right_curve break_point }
 {
     let x = note - break_point as f32 - 15.0;
     if x > 0.0 {
@@ -189,7 +189,7 @@ pub fn keyboard_scaling(
 // At x semitones from the break point, by the curve and the depth of that side: curves 0 and 1 go down, 2 and 3 up.
 // At the full depth of 99 a semitone of a straight curve is 2.65 steps.
 fn side_scaling(x: f32, curve: u8, depth: u8) -> f32
-    ensures { result ≡ sideScaling x curve depth }
+    ensures { result ≡ side_scaling x curve depth }
 {
     let t = bend(numbers::f32_abs(x), curve);
     if curve < 2 {
@@ -224,7 +224,7 @@ pub fn frequency_ratio(
     detune: u8,
 ) -> Ratio
     requires { coarse ≤ 31 }
-    ensures { result ≡ frequencyRatio high.now low.now mode coarse fine detune }
+    ensures { result ≡ frequency_ratio high.now low.now mode coarse fine detune }
 {
     let base = base_semitones(mode, coarse, fine) + (detune as f32 - 7.0) * 0.015;
     let ratio = units::semitones_to_ratio_lent(high, low, base) * fine_factor(mode, fine);
@@ -238,7 +238,7 @@ pub fn frequency_ratio(
 // each is 12 log2(10) / 100 semitones: powers of ten by the coarse number's lowest two bits, 1 Hz to 9.8 kHz in all.
 fn base_semitones(mode: u8, coarse: u8, fine: u8) -> f32
     requires { coarse ≤ 31 }
-    ensures { result ≡ baseSemitones mode coarse fine }
+    ensures { result ≡ base_semitones mode coarse fine }
 {
     if mode == 0 {
         return coarse_semitones(coarse);
@@ -249,7 +249,7 @@ fn base_semitones(mode: u8, coarse: u8, fine: u8) -> f32
 // The semitones of the ratio that a coarse number names.
 fn coarse_semitones(coarse: u8) -> f32
     requires { coarse ≤ 31 }
-    ensures { result ≡ coarseSemitones coarse }
+    ensures { result ≡ coarse_semitones coarse }
 {
     tables::LUT_COARSE[coarse as usize]
 }
@@ -257,7 +257,7 @@ fn coarse_semitones(coarse: u8) -> f32
 // What a ratio to the note is multiplied by for its fine number: 1.00 to 1.99. A fixed frequency has its fine number
 // among its semitones.
 fn fine_factor(mode: u8, fine: u8) -> f32
-    ensures { result ≡ fineFactor mode fine }
+    ensures { result ≡ fine_factor mode fine }
 {
     if mode == 0 {
         if fine != 0 {
@@ -269,13 +269,13 @@ fn fine_factor(mode: u8, fine: u8) -> f32
 
 // Two tables whole, which no conversion shows entry by entry, to be compared with the Rust's.
 pub fn lut_coarse() -> [f32; 32]
-    ensures { result ≡ lutCoarse }
+    ensures { result ≡ lut_coarse }
 {
     tables::LUT_COARSE
 }
 
 pub fn lut_cube_root() -> [f32; 17]
-    ensures { result ≡ lutCubeRoot }
+    ensures { result ≡ lut_cube_root }
 {
     tables::LUT_CUBE_ROOT
 }

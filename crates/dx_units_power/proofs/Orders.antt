@@ -3,40 +3,40 @@ use Rattle.std.proofs.Common.{◌≡◌, ℕ, ◌^◌, ◌<◌, true, false, ℤ
 use lib.Signed.{mag}
 use lib.Ieee.{Float, binary32, lt, of_bits, of_int, to_signed}
 use Rattle.numbers.specs.F32.{◌⊕◌, ◌⊖◌, ◌⊗◌, decimal}
-use Rattle.numbers.specs.Words.{sum32, shifted32, differenceSigned}
-use Rattle.dx_units_power.specs.Pow.{is_order, wholeBelow, mantissaBits, pow2Fast}
+use Rattle.numbers.specs.Words.{sum32, shifted32, difference_signed}
+use Rattle.dx_units_power.specs.Pow.{is_order, whole_below, mantissa_bits, pow2_fast}
 
 -- the code compares an order's bits
-pub the-order : (k : ℕ) (z : ℤ) → k < 2 ^ 31 → mag z < 2 ^ 31 → of_z w32 z ≡ k → z ≡ pos k
-the-order k (pos n) l h e = ap pos e
-the-order k (negsuc n) l h e = let q : ⊥ = omega arith in absurd q
+pub the_order : (k : ℕ) (z : ℤ) → k < 2 ^ 31 → mag z < 2 ^ 31 → of_z w32 z ≡ k → z ≡ pos k
+the_order k (pos n) l h e = ap pos e
+the_order k (negsuc n) l h e = let q : ⊥ = omega arith in absurd q
 
-pub is-order : (k : ℕ) (z : ℤ) → k < 2 ^ 31 → mag z < 2 ^ 31 → of_z w32 z ≡ k → is_order k z ≡ true
-is-order k z l h e = ap (is_order k) (the-order k z l h e) ∙ eq-eqb k k refl
+pub is_order_lem : (k : ℕ) (z : ℤ) → k < 2 ^ 31 → mag z < 2 ^ 31 → of_z w32 z ≡ k → is_order k z ≡ true
+is_order_lem k z l h e = ap (is_order k) (the_order k z l h e) ∙ eq-eqb k k refl
 
-pub not-order : (k : ℕ) (z : ℤ) → (of_z w32 z ≡ k → ⊥) → is_order k z ≡ false
-not-order k (pos n) e = ne_eqb n k e
-not-order k (negsuc n) e = refl
+pub not_order : (k : ℕ) (z : ℤ) → (of_z w32 z ≡ k → ⊥) → is_order k z ≡ false
+not_order k (pos n) e = ne_eqb n k e
+not_order k (negsuc n) e = refl
 
 -- a call is handed a signed number m that is n, read back from its bits, and r is read back as s
-pub below-zero : (x : Float) {n m r s : ℤ} → lt x (decimal 0 0) ≡ true → n ≡ to_signed 31 x → m ≡ n
-    → r ≡ differenceSigned m (pos 1) → s ≡ r → s ≡ wholeBelow x
-unfolding wholeBelow
-below-zero x h en em er es = simp (h, es, er, em, en)
+pub below_zero : (x : Float) {n m r s : ℤ} → lt x (decimal 0 0) ≡ true → n ≡ to_signed 31 x → m ≡ n
+    → r ≡ difference_signed m (pos 1) → s ≡ r → s ≡ whole_below x
+unfolding whole_below
+below_zero x h en em er es = simp (h, es, er, em, en)
 
-pub at-zero-or-above : (x : Float) {n s : ℤ} → lt x (decimal 0 0) ≡ false → n ≡ to_signed 31 x → s ≡ n → s ≡ wholeBelow x
-unfolding wholeBelow
-at-zero-or-above x h en es = simp (h, es, en)
+pub at_zero_or_above : (x : Float) {n s : ℤ} → lt x (decimal 0 0) ≡ false → n ≡ to_signed 31 x → s ≡ n → s ≡ whole_below x
+unfolding whole_below
+at_zero_or_above x h en es = simp (h, es, en)
 
-pub first-order : (x : Float) (order : ℤ) {n m : ℤ} {b : ℕ} {r : Float} → is_order 1 order ≡ true
+pub first_order : (x : Float) (order : ℤ) {n m : ℤ} {b : ℕ} {r : Float} → is_order 1 order ≡ true
     → n ≡ to_signed 31 (decimal 8388608 0 ⊗ (decimal 127 0 ⊕ x))
-    → m ≡ n → b ≡ of_z w32 m → r ≡ of_bits binary32 b → r ≡ pow2Fast x order
-unfolding pow2Fast
-first-order x order h en em eb er = simp (h, er, eb, em, en)
+    → m ≡ n → b ≡ of_z w32 m → r ≡ of_bits binary32 b → r ≡ pow2_fast x order
+unfolding pow2_fast
+first_order x order h en em eb er = simp (h, er, eb, em, en)
 
-pub other-order : (x : Float) (order : ℤ) {n m o : ℤ} {v r : Float} {p b e s : ℕ} → is_order 1 order ≡ false
-    → n ≡ wholeBelow x → m ≡ n → v ≡ of_int binary32 m → o ≡ order
-    → p ≡ mantissaBits (x ⊖ v) o → b ≡ of_z w32 m → e ≡ shifted32 b 23 → s ≡ sum32 p e → r ≡ of_bits binary32 s
-    → r ≡ pow2Fast x order
-unfolding pow2Fast
-other-order x order h en em ev eo ep eb ee es er = simp (h, er, es, ee, eb, ep, eo, ev, em, en)
+pub other_order : (x : Float) (order : ℤ) {n m o : ℤ} {v r : Float} {p b e s : ℕ} → is_order 1 order ≡ false
+    → n ≡ whole_below x → m ≡ n → v ≡ of_int binary32 m → o ≡ order
+    → p ≡ mantissa_bits (x ⊖ v) o → b ≡ of_z w32 m → e ≡ shifted32 b 23 → s ≡ sum32 p e → r ≡ of_bits binary32 s
+    → r ≡ pow2_fast x order
+unfolding pow2_fast
+other_order x order h en em ev eo ep eb ee es er = simp (h, er, es, ee, eb, ep, eo, ev, em, en)

@@ -6,45 +6,45 @@ use Prim.Native.Nat.{ℕ}
 use borrow.Author.Tests.{leb-true, le-leb}
 use lib.Ieee.{Float}
 use Rattle.envelope_inner.specs.declared.Envelope.{Envelope}
-use Rattle.envelope_inner.specs.Set.{operatorSet, pitchSet}
-use Rattle.envelope_inner.proofs.Laws.{rendered-stage}
-use Rattle.envelope.specs.Answers.{stateFits, operatorFits, pitchFits}
-use Rattle.envelope.specs.Answers.{setAnswer, operatorSetAnswer, pitchSetAnswer, renderAnswer}
+use Rattle.envelope_inner.specs.Set.{operator_set, pitch_set}
+use Rattle.envelope_inner.proofs.Laws.{rendered_stage}
+use Rattle.envelope.specs.Answers.{state_fits, operator_fits, pitch_fits}
+use Rattle.envelope.specs.Answers.{set_answer, operator_set_answer, pitch_set_answer, render_answer}
 
 module _ (reshape gate : Bool) (rate adScale releaseScale : Float) (e : Envelope) where
-  pub render-keeps-9 : stateFits (renderAnswer reshape gate rate adScale releaseScale e).envelope ≡ stateFits e
-  unfolding renderAnswer
-  render-keeps-9 = go (stateFits e) refl
+  pub render_keeps_9 : state_fits (render_answer reshape gate rate adScale releaseScale e).envelope ≡ state_fits e
+  unfolding render_answer
+  render_keeps_9 = go (state_fits e) refl
     where
-      go : (b : Bool) → stateFits e ≡ b → stateFits (renderAnswer reshape gate rate adScale releaseScale e).envelope ≡ stateFits e
-      go true h = rw h (le-leb _ _ (rendered-stage reshape gate rate adScale releaseScale e (leb-true e.stage 3 h)))
+      go : (b : Bool) → state_fits e ≡ b → state_fits (render_answer reshape gate rate adScale releaseScale e).envelope ≡ state_fits e
+      go true h = rw h (le-leb _ _ (rendered_stage reshape gate rate adScale releaseScale e (leb-true e.stage 3 h)))
       go false h = rw h h
 
 -- setting leaves the stage, refused or not
-pub set-keeps-9 : (e : Envelope) (increment level : List Float)
-    → (setAnswer e increment level).envelope.stage ≡ e.stage
-unfolding setAnswer
-set-keeps-9 e increment level = go (stateFits e) refl
+pub set_keeps_9 : (e : Envelope) (increment level : List Float)
+    → (set_answer e increment level).envelope.stage ≡ e.stage
+unfolding set_answer
+set_keeps_9 e increment level = go (state_fits e) refl
   where
-    go : (b : Bool) → stateFits e ≡ b → (setAnswer e increment level).envelope.stage ≡ e.stage
+    go : (b : Bool) → state_fits e ≡ b → (set_answer e increment level).envelope.stage ≡ e.stage
     go true h = rw h
     go false h = rw h
 
 module _ (e : Envelope) (rate level : List ℕ) (globalLevel : ℕ) where
-  pub operator-set-keeps-9 : (operatorSetAnswer e rate level globalLevel).envelope.stage ≡ e.stage
-  unfolding operatorSetAnswer operatorSet
-  operator-set-keeps-9 = go (stateFits e) (operatorFits rate level globalLevel) refl refl
+  pub operator_set_keeps_9 : (operator_set_answer e rate level globalLevel).envelope.stage ≡ e.stage
+  unfolding operator_set_answer operator_set
+  operator_set_keeps_9 = go (state_fits e) (operator_fits rate level globalLevel) refl refl
     where
-      go : (b f : Bool) → stateFits e ≡ b → operatorFits rate level globalLevel ≡ f → (operatorSetAnswer e rate level globalLevel).envelope.stage ≡ e.stage
+      go : (b f : Bool) → state_fits e ≡ b → operator_fits rate level globalLevel ≡ f → (operator_set_answer e rate level globalLevel).envelope.stage ≡ e.stage
       go true true h k = rw (h, k)
       go true false h k = rw (h, k)
       go false f h k = rw h
 
-  pub pitch-set-keeps-9 : (pitchSetAnswer e rate level).envelope.stage ≡ e.stage
-  unfolding pitchSetAnswer pitchSet
-  pitch-set-keeps-9 = go (stateFits e) (pitchFits rate level) refl refl
+  pub pitch_set_keeps_9 : (pitch_set_answer e rate level).envelope.stage ≡ e.stage
+  unfolding pitch_set_answer pitch_set
+  pitch_set_keeps_9 = go (state_fits e) (pitch_fits rate level) refl refl
     where
-      go : (b f : Bool) → stateFits e ≡ b → pitchFits rate level ≡ f → (pitchSetAnswer e rate level).envelope.stage ≡ e.stage
+      go : (b f : Bool) → state_fits e ≡ b → pitch_fits rate level ≡ f → (pitch_set_answer e rate level).envelope.stage ≡ e.stage
       go true true h k = rw (h, k)
       go true false h k = rw (h, k)
       go false f h k = rw h

@@ -5,17 +5,17 @@ use mathlib.Core.List.{List}
 use Prim.Native.Nat.{ℕ}
 use lib.Dec.{leb}
 use lib.ListN.{get_or}
-use Rattle.patch.specs.Layout.{Rate, envelopeField, stages}
-use Rattle.patch.specs.Packed.{stagesFit}
+use Rattle.patch.specs.Layout.{Rate, envelope_field, stages}
+use Rattle.patch.specs.Packed.{stages_fit}
 use Rattle.patch.proofs.Each.{each_within}
-use Rattle.envelope_stages.specs.Stages.{onChart}
-use Rattle.envelope.specs.Answers.{operatorFits, pitchFits}
+use Rattle.envelope_stages.specs.Stages.{OnChart}
+use Rattle.envelope.specs.Answers.{operator_fits, pitch_fits}
 
-pub levels-on-chart : (rate level : List ℕ) (globalLevel : ℕ)
-    → operatorFits rate level globalLevel ≡ true → onChart level
-unfolding operatorFits pitchFits stagesFit stages envelopeField
-levels-on-chart rate level globalLevel h =
-    let a = ((and-eq-true_iff (pitchFits rate level) (leb globalLevel 127)).0 h).0 in
-    let b = ((and-eq-true_iff (stagesFit rate) (stagesFit level)).0 a).1 in
-    let e = each_within (λ i. envelopeField (Rate i)) (λ i. get_or level i 0) stages b in
+pub levels_on_chart : (rate level : List ℕ) (globalLevel : ℕ)
+    → operator_fits rate level globalLevel ≡ true → OnChart level
+unfolding operator_fits pitch_fits stages_fit stages envelope_field
+levels_on_chart rate level globalLevel h =
+    let a = ((and-eq-true_iff (pitch_fits rate level) (leb globalLevel 127)).0 h).0 in
+    let b = ((and-eq-true_iff (stages_fit rate) (stages_fit level)).0 a).1 in
+    let e = each_within (λ i. envelope_field (Rate i)) (λ i. get_or level i 0) stages b in
     (e.0, e.1.0, e.1.1.0, e.1.1.1.0)

@@ -2,10 +2,10 @@
 -- refusal hands the state back as it came, and 0.0 for a value. Definitions only.
 use Rattle.std.specs.Prelude.{Bool, ◌&&◌, cond, List, ℕ, leb, Float}
 use Rattle.numbers.specs.F32.{decimal}
-use Rattle.patch.specs.Packed.{stagesFit}
+use Rattle.patch.specs.Packed.{stages_fit}
 use Rattle.envelope_inner.specs.declared.Envelope.{Envelope}
-use Rattle.envelope_inner.specs.Envelope.{isStage, value_at, currentValue, rendered}
-use Rattle.envelope_inner.specs.Set.{set_to, operatorSet, pitchSet}
+use Rattle.envelope_inner.specs.Envelope.{is_stage, value_at, current_value, rendered}
+use Rattle.envelope_inner.specs.Set.{set_to, operator_set, pitch_set}
 use Rattle.envelope_inner.specs.Scrub.{scrubbed}
 use Rattle.envelope.specs.declared.Prepared.{Prepared}
 use Rattle.envelope.specs.declared.Rendered.{Rendered}
@@ -14,59 +14,59 @@ use Rattle.envelope.specs.declared.Read.{Read}
 -- ---- what is refused
 
 -- a state's stage is at most 3; otherwise 9
-abbrev pub stateFits : Envelope → Bool
-stateFits e = isStage e.stage
+abbrev pub state_fits : Envelope → Bool
+state_fits e = is_stage e.stage
 
 -- rates and levels are at most 99; otherwise 6
-unfoldable pub pitchFits : List ℕ → List ℕ → Bool
-pitchFits rate level = stagesFit rate && stagesFit level
+unfoldable pub pitch_fits : List ℕ → List ℕ → Bool
+pitch_fits rate level = stages_fit rate && stages_fit level
 
 -- and a global level at most 127
-unfoldable pub operatorFits : List ℕ → List ℕ → ℕ → Bool
-operatorFits rate level globalLevel = pitchFits rate level && leb globalLevel 127
+unfoldable pub operator_fits : List ℕ → List ℕ → ℕ → Bool
+operator_fits rate level globalLevel = pitch_fits rate level && leb globalLevel 127
 
 -- ---- the answers
 
 abbrev pub prepared : ℕ → Envelope → Prepared
 prepared number e = record { number = number; envelope = e }
 
-abbrev pub notRendered : ℕ → Envelope → Rendered
-notRendered number e = record { number = number; envelope = e; value = decimal 0 0 }
+abbrev pub not_rendered : ℕ → Envelope → Rendered
+not_rendered number e = record { number = number; envelope = e; value = decimal 0 0 }
 
-abbrev pub notRead : ℕ → Read
-notRead number = record { number = number; value = decimal 0 0 }
+abbrev pub not_read : ℕ → Read
+not_read number = record { number = number; value = decimal 0 0 }
 
 -- an envelope's own increments and levels have no range
-unfoldable pub setAnswer : Envelope → List Float → List Float → Prepared
-setAnswer e increment level = cond (stateFits e) (prepared 0 (set_to e increment level)) (prepared 9 e)
+unfoldable pub set_answer : Envelope → List Float → List Float → Prepared
+set_answer e increment level = cond (state_fits e) (prepared 0 (set_to e increment level)) (prepared 9 e)
 
-unfoldable pub operatorSetAnswer : Envelope → List ℕ → List ℕ → ℕ → Prepared
-operatorSetAnswer e rate level globalLevel =
-    cond (stateFits e)
-    (cond (operatorFits rate level globalLevel) (prepared 0 (operatorSet e rate level globalLevel)) (prepared 6 e))
+unfoldable pub operator_set_answer : Envelope → List ℕ → List ℕ → ℕ → Prepared
+operator_set_answer e rate level globalLevel =
+    cond (state_fits e)
+    (cond (operator_fits rate level globalLevel) (prepared 0 (operator_set e rate level globalLevel)) (prepared 6 e))
     (prepared 9 e)
 
-unfoldable pub pitchSetAnswer : Envelope → List ℕ → List ℕ → Prepared
-pitchSetAnswer e rate level =
-    cond (stateFits e) (cond (pitchFits rate level) (prepared 0 (pitchSet e rate level)) (prepared 6 e)) (prepared 9 e)
+unfoldable pub pitch_set_answer : Envelope → List ℕ → List ℕ → Prepared
+pitch_set_answer e rate level =
+    cond (state_fits e) (cond (pitch_fits rate level) (prepared 0 (pitch_set e rate level)) (prepared 6 e)) (prepared 9 e)
 
-unfoldable pub renderAnswer : Bool → Bool → Float → Float → Float → Envelope → Rendered
-renderAnswer reshape gate rate adScale releaseScale e =
+unfoldable pub render_answer : Bool → Bool → Float → Float → Float → Envelope → Rendered
+render_answer reshape gate rate adScale releaseScale e =
     let r = rendered reshape gate rate adScale releaseScale e in
-    cond (stateFits e) (record { number = 0; envelope = r; value = currentValue reshape r }) (notRendered 9 e)
+    cond (state_fits e) (record { number = 0; envelope = r; value = current_value reshape r }) (not_rendered 9 e)
 
--- the scrub with one call of its own, which is enough (`asks-once`)
-unfoldable pub scrubAnswer : Bool → Envelope → Float → Float → Read
-scrubAnswer reshape e t gateDuration =
-    cond (stateFits e) (record { number = 0; value = scrubbed 1 reshape e t gateDuration }) (notRead 9)
+-- the scrub with one call of its own, which is enough (`asks_once`)
+unfoldable pub scrub_answer : Bool → Envelope → Float → Float → Read
+scrub_answer reshape e t gateDuration =
+    cond (state_fits e) (record { number = 0; value = scrubbed 1 reshape e t gateDuration }) (not_read 9)
 
-unfoldable pub currentValueAnswer : Bool → Envelope → Read
-currentValueAnswer reshape e =
-    cond (stateFits e) (record { number = 0; value = currentValue reshape e }) (notRead 9)
+unfoldable pub current_value_answer : Bool → Envelope → Read
+current_value_answer reshape e =
+    cond (state_fits e) (record { number = 0; value = current_value reshape e }) (not_read 9)
 
 -- a stage that is asked for is at most 3, too; otherwise 6
-unfoldable pub valueAnswer : Bool → Envelope → ℕ → Float → Float → Read
-valueAnswer reshape e stage phase start =
-    cond (stateFits e)
-    (cond (isStage stage) (record { number = 0; value = value_at reshape e stage phase start }) (notRead 6))
-    (notRead 9)
+unfoldable pub value_answer : Bool → Envelope → ℕ → Float → Float → Read
+value_answer reshape e stage phase start =
+    cond (state_fits e)
+    (cond (is_stage stage) (record { number = 0; value = value_at reshape e stage phase start }) (not_read 6))
+    (not_read 9)

@@ -3,8 +3,8 @@
 // state back as it came, and 0.0 for a value. The functions themselves, for callers that have checked their state, are
 // in `envelope_inner`.
 ghost use Rattle.std.specs.Prelude.{◌≡◌};
-ghost use Rattle.envelope.specs.Answers.{operatorFits, pitchFits, setAnswer, operatorSetAnswer, pitchSetAnswer};
-ghost use Rattle.envelope.specs.Answers.{renderAnswer, scrubAnswer, currentValueAnswer, valueAnswer};
+ghost use Rattle.envelope.specs.Answers.{operator_fits, pitch_fits, set_answer, operator_set_answer, pitch_set_answer};
+ghost use Rattle.envelope.specs.Answers.{render_answer, scrub_answer, current_value_answer, value_answer};
 
 pub use envelope_inner::{Envelope, init};
 
@@ -32,7 +32,7 @@ pub struct Read {
 
 // Increments and levels of an envelope's own, copied as they are.
 pub fn set(envelope: Envelope, increment: [f32; 4], level: [f32; 4]) -> Prepared
-    ensures { result ≡ setAnswer envelope increment level }
+    ensures { result ≡ set_answer envelope increment level }
 {
     if envelope.stage > 3 {
         return Prepared {
@@ -49,7 +49,7 @@ pub fn set(envelope: Envelope, increment: [f32; 4], level: [f32; 4]) -> Prepared
 
 // The value at a time after the gate opened, from the stages' durations alone: the scrub.
 pub fn render_at_sample(envelope: Envelope, reshape: bool, t: f32, gate_duration: f32) -> Read
-    ensures { result ≡ scrubAnswer reshape envelope t gate_duration }
+    ensures { result ≡ scrub_answer reshape envelope t gate_duration }
 {
     if envelope.stage > 3 {
         return Read {
@@ -72,7 +72,7 @@ pub fn render(
     release_scale: f32,
     reshape: bool,
 ) -> Rendered
-    ensures { result ≡ renderAnswer reshape gate rate ad_scale release_scale envelope }
+    ensures { result ≡ render_answer reshape gate rate ad_scale release_scale envelope }
 {
     if envelope.stage > 3 {
         return Rendered {
@@ -92,7 +92,7 @@ pub fn render(
 
 // The value where the envelope stands.
 pub fn current_value(envelope: Envelope, reshape: bool) -> Read
-    ensures { result ≡ currentValueAnswer reshape envelope }
+    ensures { result ≡ current_value_answer reshape envelope }
 {
     if envelope.stage > 3 {
         return Read {
@@ -108,7 +108,7 @@ pub fn current_value(envelope: Envelope, reshape: bool) -> Read
 
 // The value at a phase of a stage that starts at a level.
 pub fn value(envelope: Envelope, reshape: bool, stage: usize, phase: f32, start_level: f32) -> Read
-    ensures { result ≡ valueAnswer reshape envelope stage phase start_level }
+    ensures { result ≡ value_answer reshape envelope stage phase start_level }
 {
     if envelope.stage > 3 {
         return Read {
@@ -130,7 +130,7 @@ pub fn value(envelope: Envelope, reshape: bool, stage: usize, phase: f32, start_
 
 // An operator's rates, levels and global level.
 pub fn operator_set(envelope: Envelope, rate: [u8; 4], level: [u8; 4], global_level: u8) -> Prepared
-    ensures { result ≡ operatorSetAnswer envelope rate level global_level }
+    ensures { result ≡ operator_set_answer envelope rate level global_level }
 {
     if envelope.stage > 3 {
         return Prepared {
@@ -154,7 +154,7 @@ pub fn operator_set(envelope: Envelope, rate: [u8; 4], level: [u8; 4], global_le
 
 // The pitch's rates and levels.
 pub fn pitch_set(envelope: Envelope, rate: [u8; 4], level: [u8; 4]) -> Prepared
-    ensures { result ≡ pitchSetAnswer envelope rate level }
+    ensures { result ≡ pitch_set_answer envelope rate level }
 {
     if envelope.stage > 3 {
         return Prepared {
@@ -177,14 +177,14 @@ pub fn pitch_set(envelope: Envelope, rate: [u8; 4], level: [u8; 4]) -> Prepared
 
 // Whether an operator's numbers are at most their largest.
 fn operator_fits(rate: [u8; 4], level: [u8; 4], global_level: u8) -> bool
-    ensures { result ≡ operatorFits rate level global_level }
+    ensures { result ≡ operator_fits rate level global_level }
 {
     pitch_fits(rate, level) & (global_level <= 127)
 }
 
 // Whether rates and levels are.
 fn pitch_fits(rate: [u8; 4], level: [u8; 4]) -> bool
-    ensures { result ≡ pitchFits rate level }
+    ensures { result ≡ pitch_fits rate level }
 {
     patch_limits::stages_fit(&rate) & patch_limits::stages_fit(&level)
 }

@@ -7,8 +7,8 @@ use lib.Ieee.{Float}
 use Rattle.numbers.specs.F32.{decimal}
 use Rattle.envelope_inner.specs.declared.Envelope.{Envelope}
 use Rattle.envelope_inner.specs.declared.Position.{Position}
-use Rattle.envelope_inner.specs.Envelope.{levelValue, value_at, currentValue, standing, gated, steppedPhase, advanced, rendered}
-use Rattle.envelope_inner.proofs.Laws.{gated-stage}
+use Rattle.envelope_inner.specs.Envelope.{level_value, value_at, current_value, standing, gated, stepped_phase, advanced, rendered}
+use Rattle.envelope_inner.proofs.Laws.{gated_stage}
 
 like : (a b : Bool) → beq a b ≡ true → b ≡ a
 like true true t = refl
@@ -24,20 +24,20 @@ unlike false false t = sym t
 
 module _ (reshape gate : Bool) (e : Envelope) (q : Position) where
   -- a gate that opens or closes starts a stage
-  pub gate-jumps : {stage : ℕ} {start : Float} → beq gate (eqb q.stage 3) ≡ true → stage ≡ cond gate 0 3
-      → start ≡ levelValue reshape e.level q.stage q.phase q.start
+  pub gate_jumps : {stage : ℕ} {start : Float} → beq gate (eqb q.stage 3) ≡ true → stage ≡ cond gate 0 3
+      → start ≡ level_value reshape e.level q.stage q.phase q.start
       → standing e (record { stage = stage; phase = decimal 0 0; start = start }) ≡ gated reshape gate (standing e q)
-  unfolding gated currentValue value_at
-  gate-jumps {stage} {start} t es ev = go gate (like gate (eqb q.stage 3) t) es
+  unfolding gated current_value value_at
+  gate_jumps {stage} {start} t es ev = go gate (like gate (eqb q.stage 3) t) es
     where
       go : (g : Bool) → eqb q.stage 3 ≡ g → stage ≡ cond g 0 3 → standing e (record { stage = stage; phase = decimal 0 0; start = start }) ≡ gated reshape g (standing e q)
       go true b s = rw (b, s, ev)
       go false b s = rw (b, s, ev)
 
   -- any other leaves the envelope where it stands
-  pub gate-stays : beq gate (eqb q.stage 3) ≡ false → standing e q ≡ gated reshape gate (standing e q)
+  pub gate_stays : beq gate (eqb q.stage 3) ≡ false → standing e q ≡ gated reshape gate (standing e q)
   unfolding gated
-  gate-stays t = go gate (unlike gate (eqb q.stage 3) t)
+  gate_stays t = go gate (unlike gate (eqb q.stage 3) t)
     where
       go : (g : Bool) → eqb q.stage 3 ≡ not g → standing e q ≡ gated reshape g (standing e q)
       go true b = rw b
@@ -45,12 +45,12 @@ module _ (reshape gate : Bool) (e : Envelope) (q : Position) where
 
 module _ (reshape gate : Bool) (rate adScale releaseScale : Float) (e : Envelope) {f : Position} (ef : standing e f ≡ gated reshape gate e) where
   -- the gate's stage is one that there is
-  pub followed-stage : e.stage ≤ 3 → f.stage ≤ 3
-  followed-stage h = rw (ap (λ (g : Envelope). g.stage) ef) (gated-stage reshape gate e h)
+  pub followed_stage : e.stage ≤ 3 → f.stage ≤ 3
+  followed_stage h = rw (ap (λ (g : Envelope). g.stage) ef) (gated_stage reshape gate e h)
 
   -- the gate, the step and the advance are a call
-  pub rendered-of : {phase : Float} {r : Position} → phase ≡ steppedPhase rate adScale releaseScale (standing e f) → standing e r ≡ advanced phase (standing e f)
+  pub rendered_of : {phase : Float} {r : Position} → phase ≡ stepped_phase rate adScale releaseScale (standing e f) → standing e r ≡ advanced phase (standing e f)
       → standing e r ≡ rendered reshape gate rate adScale releaseScale e
   unfolding rendered
-  rendered-of ep er =
-      er ∙ ap (λ (p : Float). advanced p (standing e f)) ep ∙ ap (λ (g : Envelope). advanced (steppedPhase rate adScale releaseScale g) g) ef
+  rendered_of ep er =
+      er ∙ ap (λ (p : Float). advanced p (standing e f)) ep ∙ ap (λ (g : Envelope). advanced (stepped_phase rate adScale releaseScale g) g) ef

@@ -9,44 +9,44 @@ use borrow.Author.Tests.{le-ltb}
 use lib.Ieee.{Float, nan, inf, fin, lt, le, up, down}
 use Rattle.numbers.specs.F32.{◌⊖◌, ◌⊗◌, decimal}
 use Rattle.envelope_inner.specs.declared.Envelope.{Envelope}
-use Rattle.envelope_inner.specs.Envelope.{incrementAt, levelAt}
+use Rattle.envelope_inner.specs.Envelope.{increment_at, level_at}
 use Rattle.envelope_inner.specs.Scrub.{held, released, scrubbed}
 
 -- no float is less than itself
-lt-self : (x : Float) → lt x x ≡ false
+lt_self : (x : Float) → lt x x ≡ false
 unfolding lt
-lt-self nan = refl
-lt-self (inf true) = refl
-lt-self (inf false) = refl
-lt-self (fin true m e) = le-ltb (m * up e * down e) (m * up e * down e) (le_refl (m * up e * down e))
-lt-self (fin false m e) = le-ltb (m * up e * down e) (m * up e * down e) (le_refl (m * up e * down e))
+lt_self nan = refl
+lt_self (inf true) = refl
+lt_self (inf false) = refl
+lt_self (fin true m e) = le-ltb (m * up e * down e) (m * up e * down e) (le_refl (m * up e * down e))
+lt_self (fin false m e) = le-ltb (m * up e * down e) (m * up e * down e) (le_refl (m * up e * down e))
 
 module _ (reshape : Bool) (e : Envelope) where
   -- with no call allowed, the gate counts as open
-  pub scrubbed-last : (calls : ℕ) (t gateDuration : Float) → calls ≡ 0 → scrubbed calls reshape e t gateDuration ≡ held reshape e t gateDuration
+  pub scrubbed_last : (calls : ℕ) (t gateDuration : Float) → calls ≡ 0 → scrubbed calls reshape e t gateDuration ≡ held reshape e t gateDuration
   unfolding scrubbed
-  scrubbed-last calls t gateDuration z = rw z
+  scrubbed_last calls t gateDuration z = rw z
 
   -- up to the gate's end
-  pub scrubbed-held : (calls : ℕ) (t gateDuration : Float) → lt gateDuration t ≡ false → scrubbed calls reshape e t gateDuration ≡ held reshape e t gateDuration
+  pub scrubbed_held : (calls : ℕ) (t gateDuration : Float) → lt gateDuration t ≡ false → scrubbed calls reshape e t gateDuration ≡ held reshape e t gateDuration
   unfolding scrubbed
-  scrubbed-held zero t gateDuration h = refl
-  scrubbed-held (suc calls) t gateDuration h = rw h
+  scrubbed_held zero t gateDuration h = refl
+  scrubbed_held (suc calls) t gateDuration h = rw h
 
   -- past it
-  pub scrubbed-released : (calls : ℕ) (t gateDuration : Float) → (calls ≡ 0 → ⊥) → lt gateDuration t ≡ true
+  pub scrubbed_released : (calls : ℕ) (t gateDuration : Float) → (calls ≡ 0 → ⊥) → lt gateDuration t ≡ true
       → scrubbed calls reshape e t gateDuration ≡ released reshape e (t ⊖ gateDuration) (scrubbed (calls - 1) reshape e gateDuration gateDuration)
   unfolding scrubbed
-  scrubbed-released zero t gateDuration n h = absurd (n refl)
-  scrubbed-released (suc calls) t gateDuration n h = rw (h, sub-one)
+  scrubbed_released zero t gateDuration n h = absurd (n refl)
+  scrubbed_released (suc calls) t gateDuration n h = rw (h, sub-one)
 
   module _ (calls : ℕ) (t gateDuration : Float) (past : lt gateDuration t ≡ true) where
     -- one call is enough: the level at the gate's end is that of an open gate
-    pub asks-once : scrubbed (suc calls) reshape e t gateDuration ≡ released reshape e (t ⊖ gateDuration) (held reshape e gateDuration gateDuration)
+    pub asks_once : scrubbed (suc calls) reshape e t gateDuration ≡ released reshape e (t ⊖ gateDuration) (held reshape e gateDuration gateDuration)
     unfolding scrubbed
-    asks-once = rw (past, scrubbed-held calls gateDuration gateDuration (lt-self gateDuration))
+    asks_once = rw (past, scrubbed_held calls gateDuration gateDuration (lt_self gateDuration))
 
     -- the release is over
-    pub released-level : le (decimal 1 0) ((t ⊖ gateDuration) ⊗ incrementAt e 3) ≡ true → scrubbed (suc calls) reshape e t gateDuration ≡ levelAt e 3
+    pub released_level : le (decimal 1 0) ((t ⊖ gateDuration) ⊗ increment_at e 3) ≡ true → scrubbed (suc calls) reshape e t gateDuration ≡ level_at e 3
     unfolding scrubbed released
-    released-level over = rw (past, over)
+    released_level over = rw (past, over)

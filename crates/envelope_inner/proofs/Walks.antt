@@ -10,17 +10,17 @@ use Rattle.envelope_inner.specs.Scrub.{duration, reached}
 
 module _ (n stage : ℕ) (increment : List Float) (t : Float) where
   -- none is left
-  pub reached-last : n ≡ 0 → reached n stage increment t ≡ record { stage = stage; t = t }
+  pub reached_last : n ≡ 0 → reached n stage increment t ≡ record { stage = stage; t = t }
   unfolding reached
-  reached-last e = rw e
+  reached_last e = rw e
 
   -- the time ends in this one
-  pub reached-here : (k : ℕ) → n ≡ suc k → lt t (duration increment stage) ≡ true → reached n stage increment t ≡ record { stage = stage; t = t }
+  pub reached_here : (k : ℕ) → n ≡ suc k → lt t (duration increment stage) ≡ true → reached n stage increment t ≡ record { stage = stage; t = t }
   unfolding reached
-  reached-here k e h = rw (e, h)
+  reached_here k e h = rw (e, h)
 
   -- it lasts longer
-  pub reached-on : (k : ℕ) → n ≡ suc k → lt t (duration increment stage) ≡ false
+  pub reached_on : (k : ℕ) → n ≡ suc k → lt t (duration increment stage) ≡ false
       → reached n stage increment t ≡ reached k (stage + 1) increment (t ⊖ duration increment stage)
   unfolding reached
-  reached-on k e h = rw (e, h, add-one)
+  reached_on k e h = rw (e, h, add-one)

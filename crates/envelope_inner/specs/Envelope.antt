@@ -5,17 +5,17 @@
 use Rattle.std.specs.Prelude.{Bool, true, ◌&&◌, cond, List, [], ◌∷◌, ℕ, ◌+◌, ◌^◌, eqb, leb, ltb, get_or, Float}
 use Rattle.std.specs.Float.{nan}
 use Rattle.std.specs.Float.Ieee.{lt, le, eq}
-use Rattle.numbers.specs.F32.{◌⊕◌, ◌⊖◌, ◌⊗◌, ◌⊘◌, decimal, minusDecimal, as_float}
+use Rattle.numbers.specs.F32.{◌⊕◌, ◌⊖◌, ◌⊗◌, ◌⊘◌, decimal, minus_decimal, as_float}
 use Rattle.numbers.specs.Extremes.{maximum}
-use Rattle.envelope_stages.specs.Stages.{perStage, levelBefore, jump}
+use Rattle.envelope_stages.specs.Stages.{per_stage, level_before, jump}
 use Rattle.envelope_inner.specs.declared.Envelope.{Envelope}
 use Rattle.envelope_inner.specs.declared.Position.{Position}
 
-abbrev pub incrementAt : Envelope → ℕ → Float
-incrementAt e stage = get_or e.increment stage nan
+abbrev pub increment_at : Envelope → ℕ → Float
+increment_at e stage = get_or e.increment stage nan
 
-abbrev pub levelAt : Envelope → ℕ → Float
-levelAt e stage = get_or e.level stage nan
+abbrev pub level_at : Envelope → ℕ → Float
+level_at e stage = get_or e.level stage nan
 
 -- at rest at the end of the last stage; the levels are halves of each other, but that the last is 0
 unfoldable pub initialised : Float → Envelope
@@ -23,29 +23,29 @@ initialised scale = record {
   stage = 3;
   phase = decimal 1 0;
   start = decimal 0 0;
-  increment = perStage (λ i. decimal 1 3);
-  level = perStage (λ i. cond (ltb i 3) (decimal 1 0 ⊘ as_float (2 ^ i)) (decimal 0 0));
+  increment = per_stage (λ i. decimal 1 3);
+  level = per_stage (λ i. cond (ltb i 3) (decimal 1 0 ⊘ as_float (2 ^ i)) (decimal 0 0));
   scale = scale;
 }
 
 -- there are four stages, and the first is stage 0
-abbrev pub isStage : ℕ → Bool
-isStage stage = leb stage 3
+abbrev pub is_stage : ℕ → Bool
+is_stage stage = leb stage 3
 
 -- no envelope has a stage above 3
-unfoldable pub allStages : List Envelope → Bool
-allStages [] = true
-allStages (e ∷ es) = isStage e.stage && allStages es
+unfoldable pub all_stages : List Envelope → Bool
+all_stages [] = true
+all_stages (e ∷ es) = is_stage e.stage && all_stages es
 
 -- ---- the value
 
 -- a start of -100 is a mark that stands for the level before; it is compared as a float
-unfoldable pub previousLevel : Float
-previousLevel = minusDecimal 100 0
+unfoldable pub previous_level : Float
+previous_level = minus_decimal 100 0
 
 -- where a stage starts: at the level before it, or at a level of its own
 unfoldable pub start_of : Float → Float → Float
-start_of before start = cond (eq start previousLevel) before start
+start_of before start = cond (eq start previous_level) before start
 
 -- an operator's rising segment is bent, about as a logarithm
 unfoldable pub bent : Float → Float
@@ -62,17 +62,17 @@ segment reshape phase from to =
     cond (reshape && lt from to) (line (bent phase) (maximum jump from) (maximum jump to)) (line phase from to)
 
 -- the value at a phase of a stage, from the levels alone
-abbrev pub levelValue : Bool → List Float → ℕ → Float → Float → Float
-levelValue reshape level stage phase start =
-    segment reshape phase (start_of (levelBefore level stage) start) (get_or level stage nan)
+abbrev pub level_value : Bool → List Float → ℕ → Float → Float → Float
+level_value reshape level stage phase start =
+    segment reshape phase (start_of (level_before level stage) start) (get_or level stage nan)
 
 -- the value at a phase of a stage
 unfoldable pub value_at : Bool → Envelope → ℕ → Float → Float → Float
-value_at reshape e stage phase start = levelValue reshape e.level stage phase start
+value_at reshape e stage phase start = level_value reshape e.level stage phase start
 
 -- the value now
-unfoldable pub currentValue : Bool → Envelope → Float
-currentValue reshape e = value_at reshape e e.stage e.phase e.start
+unfoldable pub current_value : Bool → Envelope → Float
+current_value reshape e = value_at reshape e e.stage e.phase e.start
 
 -- ---- the render
 
@@ -92,18 +92,18 @@ abbrev pub standing : Envelope → Position → Envelope
 standing e q = moved_to e q.stage q.phase q.start
 
 -- it leaves the value now for the start of a stage
-abbrev pub jumpedTo : Bool → Envelope → ℕ → Envelope
-jumpedTo reshape e stage = moved_to e stage (decimal 0 0) (currentValue reshape e)
+abbrev pub jumped_to : Bool → Envelope → ℕ → Envelope
+jumped_to reshape e stage = moved_to e stage (decimal 0 0) (current_value reshape e)
 
 -- a gate that opens starts the first stage, and one that closes the last
 unfoldable pub gated : Bool → Bool → Envelope → Envelope
 gated reshape gate e =
-    cond gate (cond (eqb e.stage 3) (jumpedTo reshape e 0) e) (cond (eqb e.stage 3) e (jumpedTo reshape e 3))
+    cond gate (cond (eqb e.stage 3) (jumped_to reshape e 0) e) (cond (eqb e.stage 3) e (jumped_to reshape e 3))
 
 -- the phase a call further; the last stage has a scale of its own
-unfoldable pub steppedPhase : Float → Float → Float → Envelope → Float
-steppedPhase rate adScale releaseScale e =
-    e.phase ⊕ incrementAt e e.stage ⊗ rate ⊗ cond (eqb e.stage 3) releaseScale adScale
+unfoldable pub stepped_phase : Float → Float → Float → Envelope → Float
+stepped_phase rate adScale releaseScale e =
+    e.phase ⊕ increment_at e e.stage ⊗ rate ⊗ cond (eqb e.stage 3) releaseScale adScale
 
 -- a phase that reaches 1 ends its stage: the first two make room for the next, one only, and the phase left over is
 -- dropped; the others are held at 1
@@ -111,12 +111,12 @@ unfoldable pub advanced : Float → Envelope → Envelope
 advanced phase e =
     cond (le (decimal 1 0) phase)
     (cond (ltb e.stage 2)
-    (moved_to e (e.stage + 1) (decimal 0 0) previousLevel)
-    (moved_to e e.stage (decimal 1 0) previousLevel))
+    (moved_to e (e.stage + 1) (decimal 0 0) previous_level)
+    (moved_to e e.stage (decimal 1 0) previous_level))
     (moved_to e e.stage phase e.start)
 
 -- one call: the gate, then the step, then at most one stage further
 unfoldable pub rendered : Bool → Bool → Float → Float → Float → Envelope → Envelope
 rendered reshape gate rate adScale releaseScale e =
     let g = gated reshape gate e in
-    advanced (steppedPhase rate adScale releaseScale g) g
+    advanced (stepped_phase rate adScale releaseScale g) g

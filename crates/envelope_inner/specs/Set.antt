@@ -1,6 +1,6 @@
 -- Setting an envelope from a patch's rates and levels, after envelope.rs. Definitions only.
 use Rattle.std.specs.Prelude.{List, ℕ, eqb, get_or, Float}
-use Rattle.envelope_stages.specs.Stages.{operatorLevels, operatorIncrements, pitchLevels, pitchIncrements}
+use Rattle.envelope_stages.specs.Stages.{operator_levels, operator_increments, pitch_levels, pitch_increments}
 use Rattle.envelope_inner.specs.declared.Envelope.{Envelope}
 
 -- the same envelope with other increments and levels
@@ -14,12 +14,12 @@ set_to e increment level = record {
   scale = e.scale;
 }
 
-unfoldable pub operatorSet : Envelope → List ℕ → List ℕ → ℕ → Envelope
-operatorSet e rate level globalLevel =
-    let levels = operatorLevels level globalLevel in
-    set_to e (operatorIncrements rate levels (eqb (get_or level 0 0) 0) e.scale) levels
+unfoldable pub operator_set : Envelope → List ℕ → List ℕ → ℕ → Envelope
+operator_set e rate level globalLevel =
+    let levels = operator_levels level globalLevel in
+    set_to e (operator_increments rate levels (eqb (get_or level 0 0) 0) e.scale) levels
 
-unfoldable pub pitchSet : Envelope → List ℕ → List ℕ → Envelope
-pitchSet e rate level =
-    let levels = pitchLevels level in
-    set_to e (pitchIncrements rate levels e.scale) levels
+unfoldable pub pitch_set : Envelope → List ℕ → List ℕ → Envelope
+pitch_set e rate level =
+    let levels = pitch_levels level in
+    set_to e (pitch_increments rate levels e.scale) levels

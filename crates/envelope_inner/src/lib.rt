@@ -4,14 +4,14 @@
 // asked to be at most 3. One that is given no more than a position promises it for every envelope that stands there.
 ghost use Rattle.std.specs.Prelude.{◌≡◌, cond, ◌≤◌, get_or};
 ghost use Rattle.std.specs.Float.{nan};
-ghost use Rattle.dx_units_inner.specs.Tables.{levelChart};
-ghost use Rattle.envelope_stages.specs.Stages.{onChart};
+ghost use Rattle.dx_units_inner.specs.Tables.{level_chart};
+ghost use Rattle.envelope_stages.specs.Stages.{OnChart};
 ghost use Rattle.envelope_inner.specs.declared.Envelope.{Envelope};
-ghost use Rattle.envelope_inner.specs.Envelope.{initialised, start_of, segment, line, levelValue, value_at};
-ghost use Rattle.envelope_inner.specs.Envelope.{currentValue, gated, moved_to, standing, steppedPhase, advanced};
+ghost use Rattle.envelope_inner.specs.Envelope.{initialised, start_of, segment, line, level_value, value_at};
+ghost use Rattle.envelope_inner.specs.Envelope.{current_value, gated, moved_to, standing, stepped_phase, advanced};
 ghost use Rattle.envelope_inner.specs.Envelope.{rendered};
-ghost use Rattle.envelope_inner.specs.Scrub.{reached, pastStages, held, scrubbed};
-ghost use Rattle.envelope_inner.specs.Set.{set_to, operatorSet, pitchSet};
+ghost use Rattle.envelope_inner.specs.Scrub.{reached, past_stages, held, scrubbed};
+ghost use Rattle.envelope_inner.specs.Set.{set_to, operator_set, pitch_set};
 
 // A start of -100 is a mark and no level: the stage starts at the level before it. Only the stage that a gate starts
 // has a start of its own, the value at which the gate broke in. The mark is compared as a float.
@@ -128,7 +128,7 @@ fn reach(envelope: Envelope, t: f32) -> Reached
 // Past all stages. The time left is at most the gate's, so this is sustain: the third level itself, neither bent nor
 // lifted. What follows is for increments below 0, infinities and NaNs, which an envelope may hold.
 fn past_stages(envelope: Envelope, reshape: bool, t: f32) -> f32
-    ensures { result ≡ pastStages reshape envelope t }
+    ensures { result ≡ past_stages reshape envelope t }
 {
     if t <= 0.0 {
         return envelope.level[2];
@@ -203,7 +203,7 @@ fn started(gate: bool) -> usize
 fn step(increment: [f32; 4], q: Position, rate: f32, ad_scale: f32, release_scale: f32) -> f32
     requires { q.stage ≤ 3 }
     ensures { (e : Envelope) → e.increment ≡ increment
-        → result ≡ steppedPhase rate ad_scale release_scale (standing e q) }
+        → result ≡ stepped_phase rate ad_scale release_scale (standing e q) }
 {
     let stage = q.stage;
     let stride = pick(increment, stage) * rate;
@@ -253,7 +253,7 @@ pub fn move_to(envelope: Envelope, stage: usize, phase: f32, start: f32) -> Enve
 
 pub fn current_value(envelope: Envelope, reshape: bool) -> f32
     requires { envelope.stage ≤ 3 }
-    ensures { result ≡ currentValue reshape envelope }
+    ensures { result ≡ current_value reshape envelope }
 {
     value(
         envelope,
@@ -275,7 +275,7 @@ pub fn value(envelope: Envelope, reshape: bool, stage: usize, phase: f32, start_
 // The value from the levels alone.
 pub fn value_at(level: [f32; 4], reshape: bool, stage: usize, phase: f32, start_level: f32) -> f32
     requires { stage ≤ 3 }
-    ensures { result ≡ levelValue reshape level stage phase start_level }
+    ensures { result ≡ level_value reshape level stage phase start_level }
 {
     let from = start_of(pick(level, (stage + 3) % 4), start_level);
     segment(reshape, phase, from, pick(level, stage))
@@ -338,8 +338,8 @@ pub fn operator_set(
     level: [u8; 4],
     global_level: u8,
 ) -> Envelope
-    requires { (chart.now ≡ levelChart) × onChart level }
-    ensures { result ≡ operatorSet envelope rate level global_level }
+    requires { (chart.now ≡ level_chart) × OnChart level }
+    ensures { result ≡ operator_set envelope rate level global_level }
 {
     let levels = envelope_stages::operator_levels(chart, level, global_level);
     let increments = envelope_stages::operator_increments(
@@ -352,7 +352,7 @@ pub fn operator_set(
 }
 
 pub fn pitch_set(envelope: Envelope, rate: [u8; 4], level: [u8; 4]) -> Envelope
-    ensures { result ≡ pitchSet envelope rate level }
+    ensures { result ≡ pitch_set envelope rate level }
 {
     let levels = envelope_stages::pitch_levels(level);
     let increments = envelope_stages::pitch_increments(rate, levels, envelope.scale);

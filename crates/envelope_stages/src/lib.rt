@@ -1,14 +1,14 @@
 // The levels and increments of an envelope's four stages from a patch's rates and levels, after envelope.rs: what
 // setting an envelope computes. Each function promises its definition.
 ghost use Rattle.std.specs.Prelude.{◌≡◌, ◌≤◌};
-ghost use Rattle.dx_units_inner.specs.Tables.{levelChart};
-ghost use Rattle.envelope_stages.specs.Stages.{operatorStageLevel, risingIncrement, operatorStageIncrement};
-ghost use Rattle.envelope_stages.specs.Stages.{onChart, operatorLevels, operatorIncrements};
-ghost use Rattle.envelope_stages.specs.Stages.{pitchStageIncrement, pitchLevels, pitchIncrements};
+ghost use Rattle.dx_units_inner.specs.Tables.{level_chart};
+ghost use Rattle.envelope_stages.specs.Stages.{operator_stage_level, rising_increment, operator_stage_increment};
+ghost use Rattle.envelope_stages.specs.Stages.{OnChart, operator_levels, operator_increments};
+ghost use Rattle.envelope_stages.specs.Stages.{pitch_stage_increment, pitch_levels, pitch_increments};
 
 pub fn operator_levels(chart: &[u8; 100], level: [u8; 4], global_level: u8) -> [f32; 4]
-    requires { (chart.now ≡ levelChart) × onChart level }
-    ensures { result ≡ operatorLevels level global_level }
+    requires { (chart.now ≡ level_chart) × OnChart level }
+    ensures { result ≡ operator_levels level global_level }
 {
     [
         operator_stage_level(chart, level[0], global_level),
@@ -21,8 +21,8 @@ pub fn operator_levels(chart: &[u8; 100], level: [u8; 4], global_level: u8) -> [
 // In units of eight steps of the chip's level, which are a factor of 2 in amplitude. 133 is subtracted where one unit
 // less, 125, might be expected, as the Rust remarks; a level that falls below 1 step is half of one, so none is 0.
 fn operator_stage_level(chart: &[u8; 100], level: u8, global_level: u8) -> f32
-    requires { (level ≤ 99) × (chart.now ≡ levelChart) }
-    ensures { result ≡ operatorStageLevel level global_level }
+    requires { (level ≤ 99) × (chart.now ≡ level_chart) }
+    ensures { result ≡ operator_stage_level level global_level }
 {
     let scaled = dx_units_inner::operator_level(chart, level) as u32 / 2 * 2 + global_level as u32;
     if scaled < 134 {
@@ -33,7 +33,7 @@ fn operator_stage_level(chart: &[u8; 100], level: u8, global_level: u8) -> f32
 
 // Each stage's height is from the level before to its own; the first comes from the last.
 pub fn operator_increments(rate: [u8; 4], level: [f32; 4], fast: bool, scale: f32) -> [f32; 4]
-    ensures { result ≡ operatorIncrements rate level fast scale }
+    ensures { result ≡ operator_increments rate level fast scale }
 {
     [
         operator_stage_increment(rate[0], level[3], level[0], fast) * scale,
@@ -46,7 +46,7 @@ pub fn operator_increments(rate: [u8; 4], level: [f32; 4], fast: bool, scale: f3
 // A falling stage's rate goes by its height. A plateau has none: it lasts as long as a fall by 1 / 0.6 would, and a
 // first stage whose level is 0 only a twentieth of that.
 fn operator_stage_increment(rate: u8, from: f32, to: f32, fast: bool) -> f32
-    ensures { result ≡ operatorStageIncrement rate from to fast }
+    ensures { result ≡ operator_stage_increment rate from to fast }
 {
     let increment = dx_units_inner::operator_envelope_increment(rate);
     if from == to {
@@ -64,7 +64,7 @@ fn operator_stage_increment(rate: u8, from: f32, to: f32, fast: bool) -> f32
 // A rise starts at 6.7 at the lowest. Where that leaves no height, the stage is over at once; otherwise it is 7.2 times
 // as fast as a fall of its height, because it is bent.
 fn rising_increment(increment: f32, from: f32, to: f32) -> f32
-    ensures { result ≡ risingIncrement increment from to }
+    ensures { result ≡ rising_increment increment from to }
 {
     let low = numbers::f32_max(6.7, from);
     let high = numbers::f32_max(6.7, to);
@@ -75,7 +75,7 @@ fn rising_increment(increment: f32, from: f32, to: f32) -> f32
 }
 
 pub fn pitch_levels(level: [u8; 4]) -> [f32; 4]
-    ensures { result ≡ pitchLevels level }
+    ensures { result ≡ pitch_levels level }
 {
     [
         dx_units_inner::pitch_envelope_level(level[0]),
@@ -86,7 +86,7 @@ pub fn pitch_levels(level: [u8; 4]) -> [f32; 4]
 }
 
 pub fn pitch_increments(rate: [u8; 4], level: [f32; 4], scale: f32) -> [f32; 4]
-    ensures { result ≡ pitchIncrements rate level scale }
+    ensures { result ≡ pitch_increments rate level scale }
 {
     [
         pitch_stage_increment(rate[0], level[3], level[0], false) * scale,
@@ -98,7 +98,7 @@ pub fn pitch_increments(rate: [u8; 4], level: [f32; 4], scale: f32) -> [f32; 4]
 
 // By the height, as an operator's fall; a plateau has one rate for all patches, but for the last stage.
 fn pitch_stage_increment(rate: u8, from: f32, to: f32, last: bool) -> f32
-    ensures { result ≡ pitchStageIncrement rate from to last }
+    ensures { result ≡ pitch_stage_increment rate from to last }
 {
     let increment = dx_units_inner::pitch_envelope_increment(rate);
     if from != to {

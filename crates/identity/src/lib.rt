@@ -3,9 +3,9 @@
 // whenever it is asked for: the generator's number is set at each note. A patch that a voice or an LFO refuses gets the
 // number of that refusal.
 ghost use Rattle.std.specs.Prelude.{◌≡◌, ◌*◌, ◌%◌, ◌^◌, if◌then◌else◌, nat_eq};
-ghost use Rattle.identity.specs.Hash.{hashedByte, hashedWord, hashedSamples};
-ghost use Rattle.identity.specs.Identity.{readied, parametersOf, setUpFor, blockPlayed, blocksPlayed, notePlayed};
-ghost use Rattle.identity.specs.Identity.{notesPlayed, identityOf};
+ghost use Rattle.identity.specs.Hash.{hashed_byte, hashed_word, hashed_samples};
+ghost use Rattle.identity.specs.Identity.{readied, parameters_of, set_up_for, block_played, blocks_played, note_played};
+ghost use Rattle.identity.specs.Identity.{notes_played, identity_of};
 
 use lfo_inner::Lfo;
 use patch::Patch;
@@ -49,13 +49,13 @@ fn times_prime(h: u64) -> u64
 }
 
 fn hash_byte(h: u64, b: u32) -> u64
-    ensures { result ≡ hashedByte h b }
+    ensures { result ≡ hashed_byte h b }
 {
     times_prime(h ^ b as u64)
 }
 
 fn hash_word(h: u64, w: u32) -> u64
-    ensures { result ≡ hashedWord h w }
+    ensures { result ≡ hashed_word h w }
 {
     let h0 = hash_byte(h, w % 256);
     let h1 = hash_byte(h0, w / 256 % 256);
@@ -65,7 +65,7 @@ fn hash_word(h: u64, w: u32) -> u64
 
 // The output is the block's first quarter.
 fn hash_output(block: &[f32; 256], hash: u64) -> u64
-    ensures { result ≡ hashedSamples block.now 64 hash }
+    ensures { result ≡ hashed_samples block.now 64 hash }
 {
     let mut h = hash;
     let mut i = 0usize;
@@ -106,7 +106,7 @@ fn prepare(patch: Patch) -> Ready
 }
 
 fn parameters(note: f32, gate: bool, pitch_mod: f32, amp_mod: f32) -> VoiceParameters
-    ensures { result ≡ parametersOf note gate pitch_mod amp_mod }
+    ensures { result ≡ parameters_of note gate pitch_mod amp_mod }
 {
     VoiceParameters {
         sustain: false,
@@ -132,7 +132,7 @@ fn play_block(
     low: &[f32; 256],
 ) -> Playing
     ensures { result
-        ≡ blockPlayed lut.now pairs.now high.now low.now note gate s }
+        ≡ block_played lut.now pairs.now high.now low.now note gate s }
 {
     let before = s.lfo;
     let moved = lfo::step_with(lut, before, s.random, 64.0);
@@ -164,7 +164,7 @@ fn play_blocks(
     before: Playing,
 ) -> Playing
     ensures { result
-        ≡ blocksPlayed lut.now pairs.now high.now low.now
+        ≡ blocks_played lut.now pairs.now high.now low.now
         note gate n before }
 {
     let mut s = before;
@@ -178,7 +178,7 @@ fn play_blocks(
 
 // The voice after the blank block that sets it up.
 fn set_up(pairs: &[f32; 1024], high: &[f32; 256], low: &[f32; 256], v: Voice, note: f32) -> Voice
-    ensures { result ≡ setUpFor pairs.now high.now low.now v note }
+    ensures { result ≡ set_up_for pairs.now high.now low.now v note }
 {
     let p = parameters(note, false, 0.0, 0.0);
     let mut block = [0.0f32; 256];
@@ -197,7 +197,7 @@ fn play_note(
     hash: u64,
 ) -> u64
     ensures { result
-        ≡ notePlayed lut.now pairs.now high.now low.now r note hash }
+        ≡ note_played lut.now pairs.now high.now low.now r note hash }
 {
     let v = r.voice;
     let lfo = r.lfo;
@@ -221,7 +221,7 @@ fn play_notes(
     r: Ready,
 ) -> u64
     ensures { result
-        ≡ notesPlayed lut.now pairs.now high.now low.now r }
+        ≡ notes_played lut.now pairs.now high.now low.now r }
 {
     let h36 = play_note(lut, pairs, high, low, r, 36.0, HASH_BASIS);
     let h60 = play_note(lut, pairs, high, low, r, 60.0, h36);
@@ -230,7 +230,7 @@ fn play_notes(
 
 // A patch's identifier, or the number of its refusal.
 pub fn identify(patch: Patch) -> Identified
-    ensures { result ≡ identityOf patch }
+    ensures { result ≡ identity_of patch }
 {
     let r = prepare(patch);
     if r.number != 0 {

@@ -10,154 +10,154 @@ use lib.Ieee.{Float, le, lt, fits}
 use lib.Ieee.Bits.{is_true}
 use Rattle.numbers.specs.F32.{◌⊘◌, decimal}
 use Rattle.patch.specs.declared.ModulationParameters.{ModulationParameters}
-use Rattle.patch.specs.Layout.{lfoSensitivity}
-use Rattle.patch.specs.Packed.{modulationsFit}
+use Rattle.patch.specs.Layout.{lfo_sensitivity}
+use Rattle.patch.specs.Packed.{modulations_fit}
 use Rattle.lfo_inner.specs.declared.Lfo.{Lfo}
 use Rattle.lfo_inner.specs.declared.Motion.{Motion}
-use Rattle.lfo_inner.specs.Lfo.{freshLfo, adjusted, moved_to, valued, restarted, stepped, scrubbed, settled}
-use Rattle.patch_limits.specs.Ranges.{sampleRateFits}
+use Rattle.lfo_inner.specs.Lfo.{fresh_lfo, adjusted, moved_to, valued, restarted, stepped, scrubbed, settled}
+use Rattle.patch_limits.specs.Ranges.{sample_rate_fits}
 use Rattle.lfo.specs.declared.Prepared.{Prepared}
-use Rattle.lfo.specs.Answers.{fromZero, stateFits, stepFits, scrubFits, prepared, moved, notMoved, noLfo}
-use Rattle.lfo.specs.Answers.{initAnswer, setAnswer, resetAnswer, moveAnswer, stepAnswer, scrubAnswer}
-use Rattle.lfo.specs.Answers.{readAnswer, valueAnswer, delayRampAnswer, pitchModAnswer, ampModAnswer}
+use Rattle.lfo.specs.Answers.{from_zero, state_fits, step_fits, scrub_fits, prepared, moved, not_moved, no_lfo}
+use Rattle.lfo.specs.Answers.{init_answer, set_answer, reset_answer, move_answer, step_answer, scrub_answer}
+use Rattle.lfo.specs.Answers.{read_answer, value_answer, delay_ramp_answer, pitch_mod_answer, amp_mod_answer}
 use Rattle.lfo.specs.Calls.{Call, Set, Reset, Step, Scrub, Value, DelayRamp, PitchMod, AmpMod}
-use Rattle.lfo.specs.Calls.{number_of, lfoAfter, answerTo, refusalOf, Valid}
-use Rattle.lfo.proofs.Fields.{rate-fits}
-use Rattle.lfo.proofs.Accepted.{step-leaves-accepted, scrub-leaves-accepted, reset-leaves-accepted, set-leaves-accepted, step-phase-fits, scrub-phase-fits, reset-phase-fits, frequency-product, init-one-hz}
+use Rattle.lfo.specs.Calls.{number_of, lfo_after, answer_to, refusal_of, Valid}
+use Rattle.lfo.proofs.Fields.{rate_fits_lem}
+use Rattle.lfo.proofs.Accepted.{step_leaves_accepted, scrub_leaves_accepted, reset_leaves_accepted, set_leaves_accepted, step_phase_fits, scrub_phase_fits, reset_phase_fits, frequency_product, init_one_hz}
 
 -- ---- each entry
 
-pub init-valid : (rate : Float) → T (sampleRateFits rate) → Valid (initAnswer rate).lfo
-unfolding initAnswer freshLfo stateFits fromZero decimal le lt fits
-init-valid rate t =
-    rw (is_true (sampleRateFits rate) t) (record { accepted = tt; phaseFits = tt; rateFits = init-one-hz rate t })
+pub init_valid : (rate : Float) → T (sample_rate_fits rate) → Valid (init_answer rate).lfo
+unfolding init_answer fresh_lfo state_fits from_zero decimal le lt fits
+init_valid rate t =
+    rw (is_true (sample_rate_fits rate) t) (record { accepted = tt; phase_fits = tt; rate_fits = init_one_hz rate t })
 
 -- what an answer leaves: a valid LFO, and a number that is no 9
 abbrev pub Kept : Lfo → ℕ → Type 0
 Kept lfo number = Valid lfo × T (not (eqb number 9))
 
 -- a start that is not refused leaves such an LFO
-pub init-keeps : (rate : Float)
-    → T (not (eqb (initAnswer rate).number 9)) × ((initAnswer rate).number ≡ 0 → Valid (initAnswer rate).lfo)
-unfolding initAnswer
-init-keeps rate = go (sampleRateFits rate) refl
+pub init_keeps : (rate : Float)
+    → T (not (eqb (init_answer rate).number 9)) × ((init_answer rate).number ≡ 0 → Valid (init_answer rate).lfo)
+unfolding init_answer
+init_keeps rate = go (sample_rate_fits rate) refl
   where
-    go : (b : Bool) → sampleRateFits rate ≡ b
-        → T (not (eqb (initAnswer rate).number 9)) × ((initAnswer rate).number ≡ 0 → Valid (initAnswer rate).lfo)
-    go true e = (rw e tt, λ z. init-valid rate (subst T (sym e) tt))
+    go : (b : Bool) → sample_rate_fits rate ≡ b
+        → T (not (eqb (init_answer rate).number 9)) × ((init_answer rate).number ≡ 0 → Valid (init_answer rate).lfo)
+    go true e = (rw e tt, λ z. init_valid rate (subst T (sym e) tt))
     go false e = (rw e tt, λ z. absurd (let y = rw e at z in omega arith))
 
 module _ (lfo : Lfo) (s : Valid lfo) where
-  adjusted-valid : (m : ModulationParameters) → modulationsFit m lfoSensitivity ≡ true → Valid (adjusted lfo m)
+  adjusted_valid : (m : ModulationParameters) → modulations_fit m lfo_sensitivity ≡ true → Valid (adjusted lfo m)
   unfolding adjusted
-  adjusted-valid m e = record {
-    accepted = subst T (sym (set-leaves-accepted lfo s.accepted m)) (frequency-product m.rate lfo.one_hz (rate-fits m lfoSensitivity e) s.rateFits);
-    phaseFits = s.phaseFits;
-    rateFits = s.rateFits;
+  adjusted_valid m e = record {
+    accepted = subst T (sym (set_leaves_accepted lfo s.accepted m)) (frequency_product m.rate lfo.one_hz (rate_fits_lem m lfo_sensitivity e) s.rate_fits);
+    phase_fits = s.phase_fits;
+    rate_fits = s.rate_fits;
   }
 
-  set_keeps : (m : ModulationParameters) → Kept (setAnswer lfo m).lfo (setAnswer lfo m).number
-  unfolding setAnswer
-  set_keeps m = rw (is_true (stateFits lfo) s.accepted) (go (modulationsFit m lfoSensitivity) refl)
+  set_keeps : (m : ModulationParameters) → Kept (set_answer lfo m).lfo (set_answer lfo m).number
+  unfolding set_answer
+  set_keeps m = rw (is_true (state_fits lfo) s.accepted) (go (modulations_fit m lfo_sensitivity) refl)
     where
-      go : (b : Bool) → modulationsFit m lfoSensitivity ≡ b → Kept (cond b (prepared 0 (adjusted lfo m)) (prepared 6 lfo)).lfo (cond b (prepared 0 (adjusted lfo m)) (prepared 6 lfo)).number
-      go true e = (adjusted-valid m e, tt)
+      go : (b : Bool) → modulations_fit m lfo_sensitivity ≡ b → Kept (cond b (prepared 0 (adjusted lfo m)) (prepared 6 lfo)).lfo (cond b (prepared 0 (adjusted lfo m)) (prepared 6 lfo)).number
+      go true e = (adjusted_valid m e, tt)
       go false e = (s, tt)
 
-  restarted-valid : Valid (restarted lfo)
+  restarted_valid : Valid (restarted lfo)
   unfolding restarted moved_to
-  restarted-valid = record {
-    accepted = reset-leaves-accepted lfo s.accepted;
-    phaseFits = reset-phase-fits lfo s.phaseFits;
-    rateFits = s.rateFits;
+  restarted_valid = record {
+    accepted = reset_leaves_accepted lfo s.accepted;
+    phase_fits = reset_phase_fits lfo s.phase_fits;
+    rate_fits = s.rate_fits;
   }
 
-  reset-keeps : Kept (resetAnswer lfo).lfo (resetAnswer lfo).number
-  unfolding resetAnswer
-  reset-keeps = rw (is_true (stateFits lfo) s.accepted) (restarted-valid, tt)
+  reset_keeps : Kept (reset_answer lfo).lfo (reset_answer lfo).number
+  unfolding reset_answer
+  reset_keeps = rw (is_true (state_fits lfo) s.accepted) (restarted_valid, tt)
 
-  read_number : (value : Float) → T (not (eqb (readAnswer lfo value).number 9))
-  unfolding readAnswer
-  read_number value = rw (is_true (stateFits lfo) s.accepted) tt
+  read_number_lem : (value : Float) → T (not (eqb (read_answer lfo value).number 9))
+  unfolding read_answer
+  read_number_lem value = rw (is_true (state_fits lfo) s.accepted) tt
 
   -- a motion that leaves a valid LFO, with its value stored, or the refusal 7
   moved_keeps : (lut : List Float) (state : ℕ) (m : Motion) (b : Bool) → (T b → Valid m.lfo)
-      → let answer = cond b (moved (settled lut m)) (notMoved 7 lfo state) in
+      → let answer = cond b (moved (settled lut m)) (not_moved 7 lfo state) in
       Kept answer.lfo answer.number
-  unfolding settled valued stateFits
+  unfolding settled valued state_fits
   moved_keeps lut state m true f =
       let r = f tt in
-      (record { accepted = r.accepted; phaseFits = r.phaseFits; rateFits = r.rateFits }, tt)
+      (record { accepted = r.accepted; phase_fits = r.phase_fits; rate_fits = r.rate_fits }, tt)
   moved_keeps lut state m false f = (s, tt)
 
   module _ (lut : List Float) (state : ℕ) where
-    stepped-valid : (scale : Float) → T (stepFits lfo scale) → Valid (stepped lfo state scale).lfo
-    stepped-valid scale t = record {
-      accepted = step-leaves-accepted lfo s.accepted state scale s.phaseFits t;
-      phaseFits = step-phase-fits lfo state scale;
-      rateFits = unfold stepped moved_to in s.rateFits;
+    stepped_valid : (scale : Float) → T (step_fits lfo scale) → Valid (stepped lfo state scale).lfo
+    stepped_valid scale t = record {
+      accepted = step_leaves_accepted lfo s.accepted state scale s.phase_fits t;
+      phase_fits = step_phase_fits lfo state scale;
+      rate_fits = unfold stepped moved_to in s.rate_fits;
     }
 
-    step_keeps : (scale : Float) → Kept (stepAnswer lut lfo state scale).lfo (stepAnswer lut lfo state scale).number
-    unfolding stepAnswer moveAnswer
+    step_keeps : (scale : Float) → Kept (step_answer lut lfo state scale).lfo (step_answer lut lfo state scale).number
+    unfolding step_answer move_answer
     step_keeps scale =
-        rw (is_true (stateFits lfo) s.accepted)
-        (moved_keeps lut state (stepped lfo state scale) (stepFits lfo scale) (stepped-valid scale))
+        rw (is_true (state_fits lfo) s.accepted)
+        (moved_keeps lut state (stepped lfo state scale) (step_fits lfo scale) (stepped_valid scale))
 
-    scrubbed-valid : (sample : Float) → T (scrubFits lfo sample) → Valid (scrubbed lfo state sample).lfo
-    scrubbed-valid sample t = record {
-      accepted = scrub-leaves-accepted lfo s.accepted state sample t;
-      phaseFits = scrub-phase-fits lfo state sample;
-      rateFits = unfold scrubbed moved_to in s.rateFits;
+    scrubbed_valid : (sample : Float) → T (scrub_fits lfo sample) → Valid (scrubbed lfo state sample).lfo
+    scrubbed_valid sample t = record {
+      accepted = scrub_leaves_accepted lfo s.accepted state sample t;
+      phase_fits = scrub_phase_fits lfo state sample;
+      rate_fits = unfold scrubbed moved_to in s.rate_fits;
     }
 
-    scrub-keeps : (sample : Float)
-        → Kept (scrubAnswer lut lfo state sample).lfo (scrubAnswer lut lfo state sample).number
-    unfolding scrubAnswer moveAnswer
-    scrub-keeps sample =
-        rw (is_true (stateFits lfo) s.accepted)
-        (moved_keeps lut state (scrubbed lfo state sample) (scrubFits lfo sample) (scrubbed-valid sample))
+    scrub_keeps : (sample : Float)
+        → Kept (scrub_answer lut lfo state sample).lfo (scrub_answer lut lfo state sample).number
+    unfolding scrub_answer move_answer
+    scrub_keeps sample =
+        rw (is_true (state_fits lfo) s.accepted)
+        (moved_keeps lut state (scrubbed lfo state sample) (scrub_fits lfo sample) (scrubbed_valid sample))
 
 -- every call leaves a valid LFO, and its number is no 9
-pub call-keeps : (lfo : Lfo) → Valid lfo → (call : Call)
-    → Kept (lfoAfter lfo (answerTo call lfo)) (number_of (answerTo call lfo))
-unfolding answerTo valueAnswer delayRampAnswer pitchModAnswer ampModAnswer
-call-keeps lfo s (Set m) = set_keeps lfo s m
-call-keeps lfo s Reset = reset-keeps lfo s
-call-keeps lfo s (Step lut state scale) = step_keeps lfo s lut state scale
-call-keeps lfo s (Scrub lut state sample) = scrub-keeps lfo s lut state sample
-call-keeps lfo s (Value lut) = (s, read_number lfo s _)
-call-keeps lfo s DelayRamp = (s, read_number lfo s _)
-call-keeps lfo s PitchMod = (s, read_number lfo s _)
-call-keeps lfo s AmpMod = (s, read_number lfo s _)
+pub call_keeps : (lfo : Lfo) → Valid lfo → (call : Call)
+    → Kept (lfo_after lfo (answer_to call lfo)) (number_of (answer_to call lfo))
+unfolding answer_to value_answer delay_ramp_answer pitch_mod_answer amp_mod_answer
+call_keeps lfo s (Set m) = set_keeps lfo s m
+call_keeps lfo s Reset = reset_keeps lfo s
+call_keeps lfo s (Step lut state scale) = step_keeps lfo s lut state scale
+call_keeps lfo s (Scrub lut state sample) = scrub_keeps lfo s lut state sample
+call_keeps lfo s (Value lut) = (s, read_number_lem lfo s _)
+call_keeps lfo s DelayRamp = (s, read_number_lem lfo s _)
+call_keeps lfo s PitchMod = (s, read_number_lem lfo s _)
+call_keeps lfo s AmpMod = (s, read_number_lem lfo s _)
 
 -- ---- an LFO that 9 refuses
 
-pub no-lfo-refused : stateFits noLfo ≡ false
-unfolding noLfo moved_to freshLfo stateFits decimal le lt
-no-lfo-refused = refl
+pub no_lfo_refused : state_fits no_lfo ≡ false
+unfolding no_lfo moved_to fresh_lfo state_fits decimal le lt
+no_lfo_refused = refl
 
 -- as a refused start hands it out
-pub refused-init : (rate : Float) → ((initAnswer rate).number ≡ 0 → ⊥) → (initAnswer rate).lfo ≡ noLfo
-unfolding initAnswer
-refused-init rate = go (sampleRateFits rate)
+pub refused_init : (rate : Float) → ((init_answer rate).number ≡ 0 → ⊥) → (init_answer rate).lfo ≡ no_lfo
+unfolding init_answer
+refused_init rate = go (sample_rate_fits rate)
   where
     answer : Bool → Prepared
-    answer b = cond b (prepared 0 (freshLfo (decimal 1 0 ⊘ rate) (decimal 1 1))) (prepared 5 noLfo)
+    answer b = cond b (prepared 0 (fresh_lfo (decimal 1 0 ⊘ rate) (decimal 1 1))) (prepared 5 no_lfo)
 
-    go : (b : Bool) → ((answer b).number ≡ 0 → ⊥) → (answer b).lfo ≡ noLfo
+    go : (b : Bool) → ((answer b).number ≡ 0 → ⊥) → (answer b).lfo ≡ no_lfo
     go true n = absurd (n refl)
     go false n = refl
 
 -- every call is then refused with 9
-pub call-refused : (lfo : Lfo) → stateFits lfo ≡ false → (call : Call) → answerTo call lfo ≡ refusalOf call lfo
-unfolding answerTo refusalOf setAnswer resetAnswer stepAnswer scrubAnswer moveAnswer
-    valueAnswer delayRampAnswer pitchModAnswer ampModAnswer readAnswer
-call-refused lfo e (Set m) = rw e refl
-call-refused lfo e Reset = rw e refl
-call-refused lfo e (Step lut state scale) = rw e refl
-call-refused lfo e (Scrub lut state sample) = rw e refl
-call-refused lfo e (Value lut) = rw e refl
-call-refused lfo e DelayRamp = rw e refl
-call-refused lfo e PitchMod = rw e refl
-call-refused lfo e AmpMod = rw e refl
+pub call_refused : (lfo : Lfo) → state_fits lfo ≡ false → (call : Call) → answer_to call lfo ≡ refusal_of call lfo
+unfolding answer_to refusal_of set_answer reset_answer step_answer scrub_answer move_answer
+    value_answer delay_ramp_answer pitch_mod_answer amp_mod_answer read_answer
+call_refused lfo e (Set m) = rw e refl
+call_refused lfo e Reset = rw e refl
+call_refused lfo e (Step lut state scale) = rw e refl
+call_refused lfo e (Scrub lut state sample) = rw e refl
+call_refused lfo e (Value lut) = rw e refl
+call_refused lfo e DelayRamp = rw e refl
+call_refused lfo e PitchMod = rw e refl
+call_refused lfo e AmpMod = rw e refl

@@ -7,12 +7,12 @@ use lib.Ieee.{Float, nan, inf, fin, lt, le, eq}
 use lib.Ieee.Scale.{finite}
 
 -- below infinity and at least 0 is finite and at least 0
-pub under-infinity : (x : Float) → (le (fin false 0 (pos 0)) x && lt x (inf false)) ≡ (le (fin false 0 (pos 0)) x && finite x)
+pub under_infinity : (x : Float) → (le (fin false 0 (pos 0)) x && lt x (inf false)) ≡ (le (fin false 0 (pos 0)) x && finite x)
 unfolding le lt eq
-under-infinity nan = refl
-under-infinity (inf true) = refl
-under-infinity (inf false) = refl
-under-infinity (fin s m e) = refl
+under_infinity nan = refl
+under_infinity (inf true) = refl
+under_infinity (inf false) = refl
+under_infinity (fin s m e) = refl
 
 -- a refusal's test s, as a call gives it in u
 module _ {u s : Bool} (e : u ≡ s) where

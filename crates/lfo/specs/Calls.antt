@@ -9,8 +9,8 @@ use Rattle.lfo_inner.specs.declared.Lfo.{Lfo}
 use Rattle.lfo.specs.declared.Prepared.{Prepared}
 use Rattle.lfo.specs.declared.Moved.{Moved}
 use Rattle.lfo.specs.declared.Read.{Read}
-use Rattle.lfo.specs.Answers.{stateFits, prepared, notMoved, notRead, setAnswer, resetAnswer, stepAnswer}
-use Rattle.lfo.specs.Answers.{scrubAnswer, valueAnswer, delayRampAnswer, pitchModAnswer, ampModAnswer}
+use Rattle.lfo.specs.Answers.{state_fits, prepared, not_moved, not_read, set_answer, reset_answer, step_answer}
+use Rattle.lfo.specs.Answers.{scrub_answer, value_answer, delay_ramp_answer, pitch_mod_answer, amp_mod_answer}
 
 -- a call with its arguments: `step`, `scrub` and `value` have the sine table that they are lent or, without `_with`,
 -- the built-in one; the first two are handed the generator's number
@@ -36,38 +36,38 @@ number_of (Moves a) = a.number
 number_of (Reads a) = a.number
 
 -- the LFO that the next call gets: the answer's, or the same as before where it has none
-abbrev pub lfoAfter : Lfo → Answer → Lfo
-lfoAfter lfo (Prepares a) = a.lfo
-lfoAfter lfo (Moves a) = a.lfo
-lfoAfter lfo (Reads a) = lfo
+abbrev pub lfo_after : Lfo → Answer → Lfo
+lfo_after lfo (Prepares a) = a.lfo
+lfo_after lfo (Moves a) = a.lfo
+lfo_after lfo (Reads a) = lfo
 
-unfoldable pub answerTo : Call → Lfo → Answer
-answerTo (Set m) lfo = Prepares (setAnswer lfo m)
-answerTo Reset lfo = Prepares (resetAnswer lfo)
-answerTo (Step lut state scale) lfo = Moves (stepAnswer lut lfo state scale)
-answerTo (Scrub lut state sample) lfo = Moves (scrubAnswer lut lfo state sample)
-answerTo (Value lut) lfo = Reads (valueAnswer lut lfo)
-answerTo DelayRamp lfo = Reads (delayRampAnswer lfo)
-answerTo PitchMod lfo = Reads (pitchModAnswer lfo)
-answerTo AmpMod lfo = Reads (ampModAnswer lfo)
+unfoldable pub answer_to : Call → Lfo → Answer
+answer_to (Set m) lfo = Prepares (set_answer lfo m)
+answer_to Reset lfo = Prepares (reset_answer lfo)
+answer_to (Step lut state scale) lfo = Moves (step_answer lut lfo state scale)
+answer_to (Scrub lut state sample) lfo = Moves (scrub_answer lut lfo state sample)
+answer_to (Value lut) lfo = Reads (value_answer lut lfo)
+answer_to DelayRamp lfo = Reads (delay_ramp_answer lfo)
+answer_to PitchMod lfo = Reads (pitch_mod_answer lfo)
+answer_to AmpMod lfo = Reads (amp_mod_answer lfo)
 
 -- the refusal 9 of a call: the LFO and the generator's number as they came
-unfoldable pub refusalOf : Call → Lfo → Answer
-refusalOf (Set m) lfo = Prepares (prepared 9 lfo)
-refusalOf Reset lfo = Prepares (prepared 9 lfo)
-refusalOf (Step lut state scale) lfo = Moves (notMoved 9 lfo state)
-refusalOf (Scrub lut state sample) lfo = Moves (notMoved 9 lfo state)
-refusalOf (Value lut) lfo = Reads (notRead 9)
-refusalOf DelayRamp lfo = Reads (notRead 9)
-refusalOf PitchMod lfo = Reads (notRead 9)
-refusalOf AmpMod lfo = Reads (notRead 9)
+unfoldable pub refusal_of : Call → Lfo → Answer
+refusal_of (Set m) lfo = Prepares (prepared 9 lfo)
+refusal_of Reset lfo = Prepares (prepared 9 lfo)
+refusal_of (Step lut state scale) lfo = Moves (not_moved 9 lfo state)
+refusal_of (Scrub lut state sample) lfo = Moves (not_moved 9 lfo state)
+refusal_of (Value lut) lfo = Reads (not_read 9)
+refusal_of DelayRamp lfo = Reads (not_read 9)
+refusal_of PitchMod lfo = Reads (not_read 9)
+refusal_of AmpMod lfo = Reads (not_read 9)
 
 -- the part of a second that a sample takes, as a fresh LFO has it: from 1 / 192,000 to 1 / 8,000
-unfoldable pub oneHzFits : Float → Bool
-oneHzFits oneHz = le (decimal 1 0 ⊘ decimal 192000 0) oneHz && le oneHz (decimal 1 0 ⊘ decimal 8000 0)
+unfoldable pub one_hz_fits : Float → Bool
+one_hz_fits oneHz = le (decimal 1 0 ⊘ decimal 192000 0) oneHz && le oneHz (decimal 1 0 ⊘ decimal 8000 0)
 
 -- a state that 9 accepts, with an f32 for its phase and a sample's part of a second as a fresh LFO has it
 pub record Valid (lfo : Lfo) : Type 0 where
-  pub accepted : T (stateFits lfo)
-  pub phaseFits : T (fits binary32 lfo.phase)
-  pub rateFits : T (oneHzFits lfo.one_hz)
+  pub accepted : T (state_fits lfo)
+  pub phase_fits : T (fits binary32 lfo.phase)
+  pub rate_fits : T (one_hz_fits lfo.one_hz)

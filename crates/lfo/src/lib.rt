@@ -3,10 +3,10 @@
 // 0.0 for a value. An entry with `_with` takes the sine table lent, the same entry without makes it where the wave is a
 // sine. The functions themselves, for callers that have checked their state and arguments, are in `lfo_inner`.
 ghost use Rattle.std.specs.Prelude.{◌≡◌};
-ghost use Rattle.sine.specs.Table.{lutSine};
-ghost use Rattle.lfo.specs.Answers.{fromZero, stateFits, stepFits, scrubFits, moveAnswer, readAnswer};
-ghost use Rattle.lfo.specs.Answers.{initAnswer, setAnswer, resetAnswer, stepAnswer, scrubAnswer};
-ghost use Rattle.lfo.specs.Answers.{valueAnswer, delayRampAnswer, pitchModAnswer, ampModAnswer};
+ghost use Rattle.sine.specs.Table.{lut_sine};
+ghost use Rattle.lfo.specs.Answers.{from_zero, state_fits, step_fits, scrub_fits, move_answer, read_answer};
+ghost use Rattle.lfo.specs.Answers.{init_answer, set_answer, reset_answer, step_answer, scrub_answer};
+ghost use Rattle.lfo.specs.Answers.{value_answer, delay_ramp_answer, pitch_mod_answer, amp_mod_answer};
 
 use lfo_inner::Motion;
 pub use lfo_inner::{Lfo, Waveform};
@@ -36,7 +36,7 @@ pub struct Read {
 // A fresh LFO; 5 where the sample rate is not finite, below 8,000 or above 192,000, beside an LFO that every other
 // entry refuses with 9: all zeros, but for a phase of 1.
 pub fn init(sample_rate: f32) -> Prepared
-    ensures { result ≡ initAnswer sample_rate }
+    ensures { result ≡ init_answer sample_rate }
 {
     if patch_limits::sample_rate_fits(sample_rate) {
         return Prepared {
@@ -54,7 +54,7 @@ pub fn init(sample_rate: f32) -> Prepared
 
 // The rate, the delay, the wave and the depths of a patch; 9, then 6 for a field above its largest number.
 pub fn set(lfo: Lfo, modulations: patch::ModulationParameters) -> Prepared
-    ensures { result ≡ setAnswer lfo modulations }
+    ensures { result ≡ set_answer lfo modulations }
 {
     if !state_fits(lfo) {
         return Prepared { number: 9, lfo };
@@ -70,7 +70,7 @@ pub fn set(lfo: Lfo, modulations: patch::ModulationParameters) -> Prepared
 
 // The phase starts anew if the patch asked for it, the delay always; 9.
 pub fn reset(lfo: Lfo) -> Prepared
-    ensures { result ≡ resetAnswer lfo }
+    ensures { result ≡ reset_answer lfo }
 {
     if state_fits(lfo) {
         return Prepared {
@@ -83,7 +83,7 @@ pub fn reset(lfo: Lfo) -> Prepared
 
 // On by `scale` samples; 9, then 7.
 pub fn step(lfo: Lfo, state: u32, scale: f32) -> Moved
-    ensures { result ≡ stepAnswer lutSine lfo state scale }
+    ensures { result ≡ step_answer lut_sine lfo state scale }
 {
     moving(
         lfo,
@@ -95,7 +95,7 @@ pub fn step(lfo: Lfo, state: u32, scale: f32) -> Moved
 
 // The same with the sine table lent.
 pub fn step_with(lut: &[f32; 641], lfo: Lfo, state: u32, scale: f32) -> Moved
-    ensures { result ≡ stepAnswer lut.now lfo state scale }
+    ensures { result ≡ step_answer lut.now lfo state scale }
 {
     moving(
         lfo,
@@ -107,7 +107,7 @@ pub fn step_with(lut: &[f32; 641], lfo: Lfo, state: u32, scale: f32) -> Moved
 
 // To the phase at `sample`; 9, then 7.
 pub fn scrub(lfo: Lfo, state: u32, sample: f32) -> Moved
-    ensures { result ≡ scrubAnswer lutSine lfo state sample }
+    ensures { result ≡ scrub_answer lut_sine lfo state sample }
 {
     moving(
         lfo,
@@ -119,7 +119,7 @@ pub fn scrub(lfo: Lfo, state: u32, sample: f32) -> Moved
 
 // The same with the sine table lent.
 pub fn scrub_with(lut: &[f32; 641], lfo: Lfo, state: u32, sample: f32) -> Moved
-    ensures { result ≡ scrubAnswer lut.now lfo state sample }
+    ensures { result ≡ scrub_answer lut.now lfo state sample }
 {
     moving(
         lfo,
@@ -131,42 +131,42 @@ pub fn scrub_with(lut: &[f32; 641], lfo: Lfo, state: u32, sample: f32) -> Moved
 
 // The wave at the stored phase, which need not be the stored value; 9.
 pub fn value(lfo: Lfo) -> Read
-    ensures { result ≡ valueAnswer lutSine lfo }
+    ensures { result ≡ value_answer lut_sine lfo }
 {
     reading(lfo, lfo_inner::value(lfo))
 }
 
 // The same with the sine table lent.
 pub fn value_with(lut: &[f32; 641], lfo: Lfo) -> Read
-    ensures { result ≡ valueAnswer lut.now lfo }
+    ensures { result ≡ value_answer lut.now lfo }
 {
     reading(lfo, lfo_inner::value_with(lut, lfo))
 }
 
 // How far the modulation has faded in, from 0 to 1; 9.
 pub fn delay_ramp(lfo: Lfo) -> Read
-    ensures { result ≡ delayRampAnswer lfo }
+    ensures { result ≡ delay_ramp_answer lfo }
 {
     reading(lfo, lfo_inner::delay_ramp(lfo))
 }
 
 // The pitch modulation, by the stored value; 9.
 pub fn pitch_mod(lfo: Lfo) -> Read
-    ensures { result ≡ pitchModAnswer lfo }
+    ensures { result ≡ pitch_mod_answer lfo }
 {
     reading(lfo, lfo_inner::pitch_mod(lfo))
 }
 
 // The amplitude modulation, by the stored value; 9.
 pub fn amp_mod(lfo: Lfo) -> Read
-    ensures { result ≡ ampModAnswer lfo }
+    ensures { result ≡ amp_mod_answer lfo }
 {
     reading(lfo, lfo_inner::amp_mod(lfo))
 }
 
 // Where a motion ended, or 9, or 7 where its argument does not fit. The work of a refused call is dropped.
 fn moving(lfo: Lfo, state: u32, fits: bool, there: Motion) -> Moved
-    ensures { result ≡ moveAnswer lfo state fits there }
+    ensures { result ≡ move_answer lfo state fits there }
 {
     if !state_fits(lfo) {
         return Moved {
@@ -192,7 +192,7 @@ fn moving(lfo: Lfo, state: u32, fits: bool, there: Motion) -> Moved
 
 // A value that an LFO was read for, or 9 and 0.
 fn reading(lfo: Lfo, value: f32) -> Read
-    ensures { result ≡ readAnswer lfo value }
+    ensures { result ≡ read_answer lfo value }
 {
     if state_fits(lfo) {
         return Read { number: 0, value };
@@ -205,25 +205,25 @@ fn reading(lfo: Lfo, value: f32) -> Read
 
 // Finite and at least 0, as -0 is.
 fn from_zero(x: f32) -> bool
-    ensures { result ≡ fromZero x }
+    ensures { result ≡ from_zero x }
 {
     (x >= 0.0) & (x < 1.0 / 0.0)
 }
 
 fn state_fits(lfo: Lfo) -> bool
-    ensures { result ≡ stateFits lfo }
+    ensures { result ≡ state_fits lfo }
 {
     (lfo.phase >= 0.0) & (lfo.phase < 1.0) & from_zero(lfo.frequency)
 }
 
 fn step_fits(lfo: Lfo, scale: f32) -> bool
-    ensures { result ≡ stepFits lfo scale }
+    ensures { result ≡ step_fits lfo scale }
 {
     from_zero(scale) & (scale * lfo.frequency < 1.0)
 }
 
 fn scrub_fits(lfo: Lfo, sample: f32) -> bool
-    ensures { result ≡ scrubFits lfo sample }
+    ensures { result ≡ scrub_fits lfo sample }
 {
     from_zero(sample) & (sample * lfo.frequency < 2147483648.0)
 }

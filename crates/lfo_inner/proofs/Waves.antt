@@ -6,18 +6,18 @@ use lib.Ieee.{Float}
 use Rattle.numbers.proofs.Views.{no, on}
 use Rattle.lfo_inner.specs.declared.Waveform.{Waveform}
 use Rattle.lfo_inner.specs.declared.Waveform.TheVariants.{Triangle, RampDown, RampUp, Square, Sine, SAndH}
-use Rattle.lfo_inner.specs.Lfo.{sineWave, waveOf, isSine}
+use Rattle.lfo_inner.specs.Lfo.{sine_wave, wave_of, is_sine}
 
-pub sine-at : (lut : List Float) (w : Waveform) (phase last : Float) → isSine w ≡ true → sineWave lut phase ≡ waveOf lut w phase last
-unfolding isSine waveOf
-sine-at lut Triangle phase last h = no h
-sine-at lut RampDown phase last h = no h
-sine-at lut RampUp phase last h = no h
-sine-at lut Square phase last h = no h
-sine-at lut Sine phase last h = refl
-sine-at lut SAndH phase last h = no h
+pub sine_at : (lut : List Float) (w : Waveform) (phase last : Float) → is_sine w ≡ true → sine_wave lut phase ≡ wave_of lut w phase last
+unfolding is_sine wave_of
+sine_at lut Triangle phase last h = no h
+sine_at lut RampDown phase last h = no h
+sine_at lut RampUp phase last h = no h
+sine_at lut Square phase last h = no h
+sine_at lut Sine phase last h = refl
+sine_at lut SAndH phase last h = no h
 
 -- a sine is not plain
-pub no-sine : {A : Type 0} (w : Waveform) → w ≡ Sine → isSine w ≡ false → A
-unfolding isSine
-no-sine w e h = on (rw e at h)
+pub no_sine : {A : Type 0} (w : Waveform) → w ≡ Sine → is_sine w ≡ false → A
+unfolding is_sine
+no_sine w e h = on (rw e at h)

@@ -1,26 +1,26 @@
--- The LFO, after lfo.rs and in its order: one rounding per written operation, in the Rust's order. `isSine` says how
+-- The LFO, after lfo.rs and in its order: one rounding per written operation, in the Rust's order. `is_sine` says how
 -- the code computes; all others are to be believed. Definitions only.
 use Rattle.std.specs.Prelude.{Bool, true, false, not, cond, List, [], ◌∷◌, ℕ, eqb, ℤ, pos, negsuc, get_or, Float}
 use Rattle.std.specs.Float.{nan, binary32}
 use Rattle.std.specs.Float.Ieee.{lt, le, of_int, to_signed}
 use Rattle.numbers.specs.F32.{◌⊕◌, ◌⊖◌, ◌⊗◌, ◌⊘◌, decimal, as_float}
-use Rattle.dx_units_inner.specs.Units.{lfoFrequency, lfoDelay, pitchModSensitivity}
+use Rattle.dx_units_inner.specs.Units.{lfo_frequency, lfo_delay, pitch_mod_sensitivity_of}
 use Rattle.patch.specs.declared.ModulationParameters.{ModulationParameters}
 use Rattle.random.specs.declared.Drawn.{Drawn}
 use Rattle.random.specs.Random.{draw}
-use Rattle.sine.specs.Sine.{sineOf}
+use Rattle.sine.specs.Sine.{sine_of}
 use Rattle.lfo_inner.specs.declared.Waveform.{Waveform}
 use Rattle.lfo_inner.specs.declared.Waveform.TheVariants.{Triangle, RampDown, RampUp, Square, Sine, SAndH}
 use Rattle.lfo_inner.specs.declared.Lfo.{Lfo}
 use Rattle.lfo_inner.specs.declared.Motion.{Motion}
 
 -- the waves by their numbers; a number that is no wave's is a triangle's
-unfoldable pub waveformOf : ℕ → Waveform
-waveformOf n = get_or (Triangle ∷ RampDown ∷ RampUp ∷ Square ∷ Sine ∷ SAndH ∷ []) n Triangle
+unfoldable pub waveform_of : ℕ → Waveform
+waveform_of n = get_or (Triangle ∷ RampDown ∷ RampUp ∷ Square ∷ Sine ∷ SAndH ∷ []) n Triangle
 
 -- an LFO at rest; it stands still, at the frequency 0, until a patch sets one
-unfoldable pub freshLfo : Float → Float → Lfo
-freshLfo oneHz increment = record {
+unfoldable pub fresh_lfo : Float → Float → Lfo
+fresh_lfo oneHz increment = record {
   phase = decimal 0 0;
   frequency = decimal 0 0;
   delay_phase = decimal 0 0;
@@ -41,17 +41,17 @@ freshLfo oneHz increment = record {
 unfoldable pub adjusted : Lfo → ModulationParameters → Lfo
 adjusted lfo m = record {
   phase = lfo.phase;
-  frequency = lfoFrequency m.rate ⊗ lfo.one_hz;
+  frequency = lfo_frequency m.rate ⊗ lfo.one_hz;
   delay_phase = lfo.delay_phase;
   delay_increment =
-      ((lfoDelay m.delay).first ⊗ lfo.one_hz) ∷ ((lfoDelay m.delay).second ⊗ lfo.one_hz) ∷ [];
+      ((lfo_delay m.delay).first ⊗ lfo.one_hz) ∷ ((lfo_delay m.delay).second ⊗ lfo.one_hz) ∷ [];
   value = lfo.value;
   random_value = lfo.random_value;
   one_hz = lfo.one_hz;
   amp_mod_depth = as_float m.amp_mod_depth ⊗ decimal 1 2;
   pitch_mod_depth =
-      as_float m.pitch_mod_depth ⊗ decimal 1 2 ⊗ pitchModSensitivity m.pitch_mod_sensitivity;
-  waveform = waveformOf m.waveform;
+      as_float m.pitch_mod_depth ⊗ decimal 1 2 ⊗ pitch_mod_sensitivity_of m.pitch_mod_sensitivity;
+  waveform = waveform_of m.waveform;
   reset_phase = not (eqb m.reset_phase 0);
   phase_integral = lfo.phase_integral;
 }
@@ -91,56 +91,56 @@ restarted lfo =
 
 -- ---- the waves
 
-unfoldable pub triangleWave : Float → Float
-triangleWave phase = decimal 2 0 ⊗ cond (lt phase (decimal 5 1)) (decimal 5 1 ⊖ phase) (phase ⊖ decimal 5 1)
+unfoldable pub triangle_wave : Float → Float
+triangle_wave phase = decimal 2 0 ⊗ cond (lt phase (decimal 5 1)) (decimal 5 1 ⊖ phase) (phase ⊖ decimal 5 1)
 
-unfoldable pub squareWave : Float → Float
-squareWave phase = cond (lt phase (decimal 5 1)) (decimal 0 0) (decimal 1 0)
+unfoldable pub square_wave : Float → Float
+square_wave phase = cond (lt phase (decimal 5 1)) (decimal 0 0) (decimal 1 0)
 
-unfoldable pub sineWave : List Float → Float → Float
-sineWave lut phase = decimal 5 1 ⊕ decimal 5 1 ⊗ sineOf lut (phase ⊕ decimal 5 1)
+unfoldable pub sine_wave : List Float → Float → Float
+sine_wave lut phase = decimal 5 1 ⊕ decimal 5 1 ⊗ sine_of lut (phase ⊕ decimal 5 1)
 
 -- the six waves, at a phase and with the last draw
-unfoldable pub waveOf : List Float → Waveform → Float → Float → Float
-waveOf lut Triangle phase last = triangleWave phase
-waveOf lut RampDown phase last = decimal 1 0 ⊖ phase
-waveOf lut RampUp phase last = phase
-waveOf lut Square phase last = squareWave phase
-waveOf lut Sine phase last = sineWave lut phase
-waveOf lut SAndH phase last = last
+unfoldable pub wave_of : List Float → Waveform → Float → Float → Float
+wave_of lut Triangle phase last = triangle_wave phase
+wave_of lut RampDown phase last = decimal 1 0 ⊖ phase
+wave_of lut RampUp phase last = phase
+wave_of lut Square phase last = square_wave phase
+wave_of lut Sine phase last = sine_wave lut phase
+wave_of lut SAndH phase last = last
 
 -- the one wave that needs the table
-unfoldable pub isSine : Waveform → Bool
-isSine Triangle = false
-isSine RampDown = false
-isSine RampUp = false
-isSine Square = false
-isSine Sine = true
-isSine SAndH = false
+unfoldable pub is_sine : Waveform → Bool
+is_sine Triangle = false
+is_sine RampDown = false
+is_sine RampUp = false
+is_sine Square = false
+is_sine Sine = true
+is_sine SAndH = false
 
 -- the wave where an LFO stands
-abbrev pub waveAt : List Float → Lfo → Float
-waveAt lut lfo = waveOf lut lfo.waveform lfo.phase lfo.random_value
+abbrev pub wave_at : List Float → Lfo → Float
+wave_at lut lfo = wave_of lut lfo.waveform lfo.phase lfo.random_value
 
 -- ---- the draw and the delay
 
 -- a draw, or the last one again with the generator's number as it is
-unfoldable pub drawnIf : Bool → Float → ℕ → Drawn
-drawnIf draws last state = cond draws (draw state) (record { state = state; value = last })
+unfoldable pub drawn_if : Bool → Float → ℕ → Drawn
+drawn_if draws last state = cond draws (draw state) (record { state = state; value = last })
 
 -- 1 from 1 on
-unfoldable pub atMostOne : Float → Float
-atMostOne x = cond (le (decimal 1 0) x) (decimal 1 0) x
+unfoldable pub at_most_one : Float → Float
+at_most_one x = cond (le (decimal 1 0) x) (decimal 1 0) x
 
 -- below a half the delay grows by its first increment, from there by its second
-unfoldable pub delayStepped : Float → Float → Float → Float → Float
-delayStepped delay first second scale = atMostOne (delay ⊕ scale ⊗ cond (lt delay (decimal 5 1)) first second)
+unfoldable pub delay_stepped : Float → Float → Float → Float → Float
+delay_stepped delay first second scale = at_most_one (delay ⊕ scale ⊗ cond (lt delay (decimal 5 1)) first second)
 
 -- past a half, the samples beyond it count by the second increment
-unfoldable pub delayScrubbed : Float → Float → Float → Float
-delayScrubbed first second sample =
+unfoldable pub delay_scrubbed : Float → Float → Float → Float
+delay_scrubbed first second sample =
     cond (lt (decimal 5 1) (sample ⊗ first))
-    (atMostOne (decimal 5 1 ⊕ (sample ⊖ decimal 5 1 ⊘ first) ⊗ second))
+    (at_most_one (decimal 5 1 ⊕ (sample ⊖ decimal 5 1 ⊘ first) ⊗ second))
     (sample ⊗ first)
 
 abbrev pub first_of : Lfo → Float
@@ -159,27 +159,27 @@ wrapped phase = cond (le (decimal 1 0) phase) (phase ⊖ decimal 1 0) phase
 unfoldable pub stepped : Lfo → ℕ → Float → Motion
 stepped lfo state scale =
     let phase = lfo.phase ⊕ scale ⊗ lfo.frequency in
-    let drawn = drawnIf (le (decimal 1 0) phase) lfo.random_value state in
-    let delay = delayStepped lfo.delay_phase (first_of lfo) (second_of lfo) scale in
+    let drawn = drawn_if (le (decimal 1 0) phase) lfo.random_value state in
+    let delay = delay_stepped lfo.delay_phase (first_of lfo) (second_of lfo) scale in
     record {
       lfo = moved_to lfo (wrapped phase) drawn.value delay lfo.phase_integral;
       state = drawn.state;
     }
 
 -- whether two whole parts differ
-unfoldable pub wholeChanged : ℤ → ℤ → Bool
-wholeChanged (pos a) (pos b) = not (eqb a b)
-wholeChanged (pos a) (negsuc b) = true
-wholeChanged (negsuc a) (pos b) = true
-wholeChanged (negsuc a) (negsuc b) = not (eqb a b)
+unfoldable pub whole_changed : ℤ → ℤ → Bool
+whole_changed (pos a) (pos b) = not (eqb a b)
+whole_changed (pos a) (negsuc b) = true
+whole_changed (negsuc a) (pos b) = true
+whole_changed (negsuc a) (negsuc b) = not (eqb a b)
 
 -- a scrub draws when its phase's whole part, its number of turns, is not the last scrub's
 unfoldable pub scrubbed : Lfo → ℕ → Float → Motion
 scrubbed lfo state sample =
     let phase = sample ⊗ lfo.frequency in
     let whole = to_signed 31 phase in
-    let drawn = drawnIf (wholeChanged whole lfo.phase_integral) lfo.random_value state in
-    let delay = delayScrubbed (first_of lfo) (second_of lfo) sample in
+    let drawn = drawn_if (whole_changed whole lfo.phase_integral) lfo.random_value state in
+    let delay = delay_scrubbed (first_of lfo) (second_of lfo) sample in
     record { lfo = moved_to lfo (phase ⊖ of_int binary32 whole) drawn.value delay whole; state = drawn.state }
 
 -- a value is stored where a motion ends
@@ -188,16 +188,16 @@ storing there value = record { lfo = valued there.lfo value; state = there.state
 
 -- both store the wave's
 unfoldable pub settled : List Float → Motion → Motion
-settled lut there = storing there (waveAt lut there.lfo)
+settled lut there = storing there (wave_at lut there.lfo)
 
 -- ---- the readers
 
 -- how far the modulation has faded in: not at all in the delay's first half
-unfoldable pub rampOf : Float → Float
-rampOf delay = cond (lt delay (decimal 5 1)) (decimal 0 0) ((delay ⊖ decimal 5 1) ⊗ decimal 2 0)
+unfoldable pub ramp_of : Float → Float
+ramp_of delay = cond (lt delay (decimal 5 1)) (decimal 0 0) ((delay ⊖ decimal 5 1) ⊗ decimal 2 0)
 
-unfoldable pub pitchModOf : Lfo → Float
-pitchModOf lfo = (lfo.value ⊖ decimal 5 1) ⊗ rampOf lfo.delay_phase ⊗ lfo.pitch_mod_depth
+unfoldable pub pitch_mod_of : Lfo → Float
+pitch_mod_of lfo = (lfo.value ⊖ decimal 5 1) ⊗ ramp_of lfo.delay_phase ⊗ lfo.pitch_mod_depth
 
-unfoldable pub ampModOf : Lfo → Float
-ampModOf lfo = (decimal 1 0 ⊖ lfo.value) ⊗ rampOf lfo.delay_phase ⊗ lfo.amp_mod_depth
+unfoldable pub amp_mod_of : Lfo → Float
+amp_mod_of lfo = (decimal 1 0 ⊖ lfo.value) ⊗ ramp_of lfo.delay_phase ⊗ lfo.amp_mod_depth

@@ -2,11 +2,11 @@
 // arguments. The generator's number goes in and comes back with the LFO, and the sine table is lent: a function with
 // `_with` takes it, the same function without makes it where the wave is a sine. Each promises its definition.
 ghost use Rattle.std.specs.Prelude.{◌≡◌, false, List, ◌≤◌, Float};
-ghost use Rattle.sine.specs.Table.{lutSine};
-ghost use Rattle.lfo_inner.specs.Lfo.{waveformOf, freshLfo, adjusted, moved_to, valued, restarted, isSine};
-ghost use Rattle.lfo_inner.specs.Lfo.{triangleWave, squareWave, sineWave, waveAt, drawnIf, atMostOne};
-ghost use Rattle.lfo_inner.specs.Lfo.{delayStepped, delayScrubbed, wrapped, stepped, wholeChanged, scrubbed};
-ghost use Rattle.lfo_inner.specs.Lfo.{storing, settled, rampOf, pitchModOf, ampModOf};
+ghost use Rattle.sine.specs.Table.{lut_sine};
+ghost use Rattle.lfo_inner.specs.Lfo.{waveform_of, fresh_lfo, adjusted, moved_to, valued, restarted, is_sine};
+ghost use Rattle.lfo_inner.specs.Lfo.{triangle_wave, square_wave, sine_wave, wave_at, drawn_if, at_most_one};
+ghost use Rattle.lfo_inner.specs.Lfo.{delay_stepped, delay_scrubbed, wrapped, stepped, whole_changed, scrubbed};
+ghost use Rattle.lfo_inner.specs.Lfo.{storing, settled, ramp_of, pitch_mod_of, amp_mod_of};
 
 #[derive(Drop)]
 pub enum Waveform {
@@ -20,7 +20,7 @@ pub enum Waveform {
 
 // A number that is no wave's is a triangle's.
 pub fn waveform_from(n: u8) -> Waveform
-    ensures { result ≡ waveformOf n }
+    ensures { result ≡ waveform_of n }
 {
     match n {
         1 => Waveform::RampDown,
@@ -58,7 +58,7 @@ pub struct Motion {
 // An LFO at rest. It stands still: it has no rate until a patch sets one, so that steps before the first note move no
 // phase.
 pub fn fresh(one_hz: f32, delay_increment: f32) -> Lfo
-    ensures { result ≡ freshLfo one_hz delay_increment }
+    ensures { result ≡ fresh_lfo one_hz delay_increment }
 {
     let increments = [delay_increment, delay_increment];
     Lfo {
@@ -118,7 +118,7 @@ pub fn reset(mut lfo: Lfo) -> Lfo
 
 // On by `scale` samples.
 pub fn step(lfo: Lfo, state: u32, scale: f32) -> Motion
-    ensures { result ≡ settled lutSine (stepped lfo state scale) }
+    ensures { result ≡ settled lut_sine (stepped lfo state scale) }
 {
     let there = step_silent(lfo, state, scale);
     settle(there, value(there.lfo))
@@ -158,7 +158,7 @@ fn wrap(phase: f32) -> f32
 
 // The delay's phase goes to a half by its first increment, on to 1 by its second, and stays there.
 fn delay_step(delay_phase: f32, first: f32, second: f32, scale: f32) -> f32
-    ensures { result ≡ delayStepped delay_phase first second scale }
+    ensures { result ≡ delay_stepped delay_phase first second scale }
 {
     if delay_phase < 0.5 {
         return at_most_one(delay_phase + scale * first);
@@ -168,7 +168,7 @@ fn delay_step(delay_phase: f32, first: f32, second: f32, scale: f32) -> f32
 
 // 1 from 1 on; a NaN stays one.
 fn at_most_one(x: f32) -> f32
-    ensures { result ≡ atMostOne x }
+    ensures { result ≡ at_most_one x }
 {
     if x >= 1.0 {
         return 1.0;
@@ -178,7 +178,7 @@ fn at_most_one(x: f32) -> f32
 
 // To the phase at `sample`, a time from 0 on.
 pub fn scrub(lfo: Lfo, state: u32, sample: f32) -> Motion
-    ensures { result ≡ settled lutSine (scrubbed lfo state sample) }
+    ensures { result ≡ settled lut_sine (scrubbed lfo state sample) }
 {
     let there = scrub_silent(lfo, state, sample);
     settle(there, value(there.lfo))
@@ -215,14 +215,14 @@ fn scrub_silent(lfo: Lfo, state: u32, sample: f32) -> Motion
 }
 
 fn differs(a: i32, b: i32) -> bool
-    ensures { result ≡ wholeChanged a b }
+    ensures { result ≡ whole_changed a b }
 {
     a != b
 }
 
 // The delay's phase at a time from 0 on: past a half, the samples beyond it count by the second increment.
 fn delay_scrub(first: f32, second: f32, sample: f32) -> f32
-    ensures { result ≡ delayScrubbed first second sample }
+    ensures { result ≡ delay_scrubbed first second sample }
 {
     let delay_phase = sample * first;
     if delay_phase > 0.5 {
@@ -233,7 +233,7 @@ fn delay_scrub(first: f32, second: f32, sample: f32) -> f32
 
 // A draw, or the last one again with the generator's number as it is.
 fn draw_if(draws: bool, random_value: f32, state: u32) -> random::Drawn
-    ensures { result ≡ drawnIf draws random_value state }
+    ensures { result ≡ drawn_if draws random_value state }
 {
     if draws {
         return random::get_float(state);
@@ -273,7 +273,7 @@ fn with_value(mut lfo: Lfo, value: f32) -> Lfo
 
 // The wave where the LFO stands, from 0 to 1. The table is made only for a sine.
 pub fn value(lfo: Lfo) -> f32
-    ensures { result ≡ waveAt lutSine lfo }
+    ensures { result ≡ wave_at lut_sine lfo }
 {
     if is_sine(lfo) {
         let lut = sine::lut_sine();
@@ -284,7 +284,7 @@ pub fn value(lfo: Lfo) -> f32
 
 // The same with the sine table lent.
 pub fn value_with(lut: &[f32; 641], lfo: Lfo) -> f32
-    ensures { result ≡ waveAt lut.now lfo }
+    ensures { result ≡ wave_at lut.now lfo }
 {
     if is_sine(lfo) {
         return sine_wave(lut, lfo.phase);
@@ -294,7 +294,7 @@ pub fn value_with(lut: &[f32; 641], lfo: Lfo) -> f32
 
 // The one wave that needs the table.
 fn is_sine(lfo: Lfo) -> bool
-    ensures { result ≡ isSine lfo.waveform }
+    ensures { result ≡ is_sine lfo.waveform }
 {
     let waveform = lfo.waveform;
     match waveform {
@@ -309,7 +309,7 @@ fn is_sine(lfo: Lfo) -> bool
 
 // The waves that need no table, so the same with any; a sine is not asked for here.
 fn plain_wave(lfo: Lfo) -> f32
-    ensures { (lut : List Float) → isSine lfo.waveform ≡ false → result ≡ waveAt lut lfo }
+    ensures { (lut : List Float) → is_sine lfo.waveform ≡ false → result ≡ wave_at lut lfo }
 {
     let waveform = lfo.waveform;
     let phase = lfo.phase;
@@ -324,7 +324,7 @@ fn plain_wave(lfo: Lfo) -> f32
 }
 
 fn triangle(phase: f32) -> f32
-    ensures { result ≡ triangleWave phase }
+    ensures { result ≡ triangle_wave phase }
 {
     if phase < 0.5 {
         return 2.0 * (0.5 - phase);
@@ -333,20 +333,20 @@ fn triangle(phase: f32) -> f32
 }
 
 fn square(phase: f32) -> f32
-    ensures { result ≡ squareWave phase }
+    ensures { result ≡ square_wave phase }
 {
     if phase < 0.5 { 0.0 } else { 1.0 }
 }
 
 fn sine_wave(lut: &[f32; 641], phase: f32) -> f32
-    ensures { result ≡ sineWave lut.now phase }
+    ensures { result ≡ sine_wave lut.now phase }
 {
     0.5 + 0.5 * sine::sine(lut, phase + 0.5)
 }
 
 // How far the modulation has faded in, from 0 to 1: not at all in the delay's first half.
 pub fn delay_ramp(lfo: Lfo) -> f32
-    ensures { result ≡ rampOf lfo.delay_phase }
+    ensures { result ≡ ramp_of lfo.delay_phase }
 {
     let delay_phase = lfo.delay_phase;
     if delay_phase < 0.5 {
@@ -357,14 +357,14 @@ pub fn delay_ramp(lfo: Lfo) -> f32
 
 // By the stored value: a half bends nothing.
 pub fn pitch_mod(lfo: Lfo) -> f32
-    ensures { result ≡ pitchModOf lfo }
+    ensures { result ≡ pitch_mod_of lfo }
 {
     (lfo.value - 0.5) * delay_ramp(lfo) * lfo.pitch_mod_depth
 }
 
 // By the stored value: 1 dims nothing.
 pub fn amp_mod(lfo: Lfo) -> f32
-    ensures { result ≡ ampModOf lfo }
+    ensures { result ≡ amp_mod_of lfo }
 {
     (1.0 - lfo.value) * delay_ramp(lfo) * lfo.amp_mod_depth
 }

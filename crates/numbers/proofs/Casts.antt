@@ -7,10 +7,10 @@ use lib.Ieee.Fits.{up_pos, down_pos, and_l, and_r, and_i, eq→eqb, fits_widens}
 use lib.Ieee.{Float, nan, inf, fin, binary32, binary64, up, down, lt, le, eq, ne, neg, fits, to_unsigned, to_signed}
 use lib.Ieee.{in_unsigned, whole, is_nan}
 use Rattle.numbers.specs.Extremes.{magnitude}
-use Rattle.numbers.proofs.Views.{no, on, both, AtLeast, ge-inf, ge-fin, NotAtLeast, nge-nan, nge-inf, nge-neg}
-use Rattle.numbers.proofs.Views.{nge-fin, Under, lt-inf, lt-neg, lt-fin, NotUnder, nlt-nan, nlt-inf, nlt-fin}
-use Rattle.numbers.proofs.Views.{AtLeastNeg, gen-inf, gen-fin, gen-neg, NotAtLeastNeg, ngen-neg, NotAboveNeg}
-use Rattle.numbers.proofs.Views.{ngt-nan, ngt-inf, ngt-neg}
+use Rattle.numbers.proofs.Views.{no, on, both, AtLeast, ge_inf, ge_fin, NotAtLeast, nge_nan, nge_inf, nge_neg}
+use Rattle.numbers.proofs.Views.{nge_fin, Under, lt_inf, lt_neg, lt_fin, NotUnder, nlt_nan, nlt_inf, nlt_fin}
+use Rattle.numbers.proofs.Views.{AtLeastNeg, gen_inf, gen_fin, gen_neg, NotAtLeastNeg, ngen_neg, NotAboveNeg}
+use Rattle.numbers.proofs.Views.{ngt_nan, ngt_inf, ngt_neg}
 
 -- an f32 of 2 ^ 23 or more has no fraction
 pub no_fraction : (m k : ℕ) → m < 2 ^ 24 → 2 ^ 23 * 2 ^ suc k ≤ m * 1 → ⊥
@@ -29,10 +29,10 @@ digits_lt (suc m) e f =
     let d = ltb (suc m * up e) (2 ^ 128 * down e) in
     ltb→lt (suc m) (2 ^ 24) (and_r a b (and_l (a && b) c (and_l (a && b && c) d f)))
 
-pub fast-in : (x : Float) → T (fits binary32 x) → AtLeast 23 x → Under 32 x → T (in_unsigned binary64 32 x)
+pub fast_in : (x : Float) → T (fits binary32 x) → AtLeast 23 x → Under 32 x → T (in_unsigned binary64 32 x)
 unfolding in_unsigned whole
-fast-in _ f (ge-fin m (negsuc k) g) u = absurd (no_fraction m k (digits_lt m (negsuc k) f) g)
-fast-in _ f (ge-fin m (pos k) g) (lt-fin _ _ l) =
+fast_in _ f (ge_fin m (negsuc k) g) u = absurd (no_fraction m k (digits_lt m (negsuc k) f) g)
+fast_in _ f (ge_fin m (pos k) g) (lt_fin _ _ l) =
     let n : ℕ = m * 2 ^ k in
     let h : n / 1 < 2 ^ 32 = omega arith in
     and_i (eqb (n % 1) 0 && leb (n / 1) (2 ^ 53) && true) (true && ltb (n / 1) (2 ^ 32))
@@ -42,45 +42,45 @@ fast-in _ f (ge-fin m (pos k) g) (lt-fin _ _ l) =
 
 pub at_least_no_nan : (j : ℕ) (x : Float) → AtLeast j x → is_nan x ≡ false
 unfolding is_nan
-at_least_no_nan j _ ge-inf = refl
-at_least_no_nan j _ (ge-fin m e g) = refl
+at_least_no_nan j _ ge_inf = refl
+at_least_no_nan j _ (ge_fin m e g) = refl
 
 -- the whole part is below 2 ^ j, or 2 ^ j at least
-pub whole-lt : (j m : ℕ) (e : ℤ) → m * up e < 2 ^ j * down e → m * up e / down e < 2 ^ j
-whole-lt j m e h = (div-lt_iff_lt-mul (down_pos e)).1 h
+pub whole_lt : (j m : ℕ) (e : ℤ) → m * up e < 2 ^ j * down e → m * up e / down e < 2 ^ j
+whole_lt j m e h = (div-lt_iff_lt-mul (down_pos e)).1 h
 
-pub whole-ge : (j m : ℕ) (e : ℤ) → 2 ^ j * down e ≤ m * up e → 2 ^ j ≤ m * up e / down e
-whole-ge j m e h = (le-div_iff_mul-le (down_pos e)).1 h
+pub whole_ge : (j m : ℕ) (e : ℤ) → 2 ^ j * down e ≤ m * up e → 2 ^ j ≤ m * up e / down e
+whole_ge j m e h = (le-div_iff_mul-le (down_pos e)).1 h
 
 pub too_large : (w : ℕ) (x : Float) → NotUnder w x → is_nan x ≡ false → to_unsigned w x ≡ 2 ^ w - 1
 unfolding to_unsigned is_nan
-too_large w _ nlt-nan n = on n
-too_large w _ nlt-inf n = refl
-too_large w _ (nlt-fin m e g) n = let h = whole-ge w m e g in omega arith
+too_large w _ nlt_nan n = on n
+too_large w _ nlt_inf n = refl
+too_large w _ (nlt_fin m e g) n = let h = whole_ge w m e g in omega arith
 
 -- below 2 ^ j every wider cast is the same
 pub narrows : (j w v : ℕ) (x : Float) → 2 ^ j ≤ 2 ^ w - 1 → 2 ^ j ≤ 2 ^ v - 1 → NotAtLeast j x
     → to_unsigned w x ≡ to_unsigned v x
 unfolding to_unsigned
-narrows j w v _ p q nge-nan = refl
-narrows j w v _ p q nge-inf = refl
-narrows j w v _ p q (nge-neg m e) = refl
-narrows j w v _ p q (nge-fin m e g) = let h = whole-lt j m e g in omega arith
+narrows j w v _ p q nge_nan = refl
+narrows j w v _ p q nge_inf = refl
+narrows j w v _ p q (nge_neg m e) = refl
+narrows j w v _ p q (nge_fin m e g) = let h = whole_lt j m e g in omega arith
 
 pub negative : (w j : ℕ) (x : Float) → NotAboveNeg j x → to_unsigned w x ≡ 0
 unfolding to_unsigned
-negative w j _ ngt-nan = refl
-negative w j _ ngt-inf = refl
-negative w j _ (ngt-neg m e) = refl
+negative w j _ ngt_nan = refl
+negative w j _ ngt_inf = refl
+negative w j _ (ngt_neg m e) = refl
 
-pub small-enough : (j k : ℕ) (x : Float) → 2 ^ j ≤ 2 ^ k → NotAtLeast j x → lt (fin true 1 (pos 0)) x ≡ true
+pub small_enough : (j k : ℕ) (x : Float) → 2 ^ j ≤ 2 ^ k → NotAtLeast j x → lt (fin true 1 (pos 0)) x ≡ true
     → T (lt x (fin false 1 (pos k)))
 unfolding lt
-small-enough j k _ p nge-nan a = no a
-small-enough j k _ p nge-inf a = no a
-small-enough j k _ p (nge-neg m e) a =
+small_enough j k _ p nge_nan a = no a
+small_enough j k _ p nge_inf a = no a
+small_enough j k _ p (nge_neg m e) a =
     lt→ltb 0 (m * up e * 1 + 1 * 2 ^ k * down e) (let z = mul-le-mul (pow_pos k) (down_pos e) in omega arith)
-small-enough j k _ p (nge-fin m e g) a =
+small_enough j k _ p (nge_fin m e g) a =
     lt→ltb (m * up e * 1) (1 * 2 ^ k * down e)
     (let z = mul-le-mul_right (down e) p in rw (one-mul, mul-one) (omega arith))
 
@@ -88,19 +88,19 @@ small-enough j k _ p (nge-fin m e g) a =
 pub widens : (x : Float) → T (fits binary32 x) → is_nan x ≡ false → T (fits binary64 x && not (is_nan x))
 widens x f n = and_i (fits binary64 x) (not (is_nan x)) (fits_widens x f) (subst (λ (b : Bool). T (not b)) (sym n) tt)
 
-beq-self : (s : Bool) → beq s s ≡ true
-beq-self true = refl
-beq-self false = refl
+beq_self : (s : Bool) → beq s s ≡ true
+beq_self true = refl
+beq_self false = refl
 
-eqb-self : (n : ℕ) → eqb n n ≡ true
-eqb-self n = eq-eqb n n refl
+eqb_self : (n : ℕ) → eqb n n ≡ true
+eqb_self n = eq-eqb n n refl
 
 -- a float differs from itself where it is a NaN
-pub ne-self : (x : Float) → ne x x ≡ is_nan x
+pub ne_self : (x : Float) → ne x x ≡ is_nan x
 unfolding ne eq is_nan
-ne-self nan = refl
-ne-self (inf s) = simp beq-self
-ne-self (fin s m e) = simp (beq-self, eqb-self)
+ne_self nan = refl
+ne_self (inf s) = simp beq_self
+ne_self (fin s m e) = simp (beq_self, eqb_self)
 
 pub only_nan : (x : Float) → is_nan x ≡ true → x ≡ nan
 unfolding is_nan
@@ -110,88 +110,88 @@ only_nan (fin s m e) h = no h
 
 -- ---- signed
 
-neg-min : (a b c : ℕ) → a ≤ b → a ≤ c → neg_ℤ (pos (min a b)) ≡ neg_ℤ (pos (min a c))
-neg-min a b c h k = let z : min a b ≡ min a c = omega arith in rw z
+neg_min : (a b c : ℕ) → a ≤ b → a ≤ c → neg_ℤ (pos (min a b)) ≡ neg_ℤ (pos (min a c))
+neg_min a b c h k = let z : min a b ≡ min a c = omega arith in rw z
 
-pos-min : (a b c : ℕ) → a ≤ b → a ≤ c → pos (min a b) ≡ pos (min a c)
-pos-min a b c h k = let z : min a b ≡ min a c = omega arith in rw z
+pos_min : (a b c : ℕ) → a ≤ b → a ≤ c → pos (min a b) ≡ pos (min a c)
+pos_min a b c h k = let z : min a b ≡ min a c = omega arith in rw z
 
 pub whole_le : (j m : ℕ) (e : ℤ) → m * up e ≤ 2 ^ j * down e → m * up e / down e ≤ 2 ^ j
 whole_le j m e h = div-le_of_le-mul (down e) (subst (λ (n : ℕ). m * up e ≤ n) (mul_comm (2 ^ j) (down e)) h)
 
-pub narrows-signed : (j v : ℕ) (x : Float) → j ≤ v → Under j x → AtLeastNeg j x → to_signed v x ≡ to_signed j x
+pub narrows_signed : (j v : ℕ) (x : Float) → j ≤ v → Under j x → AtLeastNeg j x → to_signed v x ≡ to_signed j x
 unfolding to_signed
-narrows-signed j v _ p (lt-neg m e) (gen-neg _ _ g) =
-    neg-min (m * up e / down e) (2 ^ v) (2 ^ j) (let h =
+narrows_signed j v _ p (lt_neg m e) (gen_neg _ _ g) =
+    neg_min (m * up e / down e) (2 ^ v) (2 ^ j) (let h =
     whole_le j m e g in let q = pow_mono p in omega arith) (whole_le j m e g)
-narrows-signed j v _ p (lt-fin m e g) (gen-fin _ _) =
-    pos-min (m * up e / down e) (2 ^ v - 1) (2 ^ j - 1) (let h =
-    whole-lt j m e g in let q = pow_mono p in omega arith) (let h = whole-lt j m e g in omega arith)
+narrows_signed j v _ p (lt_fin m e g) (gen_fin _ _) =
+    pos_min (m * up e / down e) (2 ^ v - 1) (2 ^ j - 1) (let h =
+    whole_lt j m e g in let q = pow_mono p in omega arith) (let h = whole_lt j m e g in omega arith)
 
-pub too-low : (j : ℕ) (x : Float) → Under j x → NotAtLeastNeg j x → to_signed j x ≡ neg_ℤ (pos (2 ^ j))
+pub too_low : (j : ℕ) (x : Float) → Under j x → NotAtLeastNeg j x → to_signed j x ≡ neg_ℤ (pos (2 ^ j))
 unfolding to_signed
-too-low j _ lt-inf n = refl
-too-low j _ (lt-neg m e) (ngen-neg _ _ g) =
+too_low j _ lt_inf n = refl
+too_low j _ (lt_neg m e) (ngen_neg _ _ g) =
     let h = (le-div_iff_mul-le (down_pos e)).1 (le_of_lt g) in
     let z : min (m * up e / down e) (2 ^ j) ≡ 2 ^ j = omega arith in
     rw z
 
-pub too-high : (j : ℕ) (x : Float) → AtLeast j x → to_signed j x ≡ pos (2 ^ j - 1)
+pub too_high : (j : ℕ) (x : Float) → AtLeast j x → to_signed j x ≡ pos (2 ^ j - 1)
 unfolding to_signed
-too-high j _ ge-inf = refl
-too-high j _ (ge-fin m e g) =
-    let h = whole-ge j m e g in
+too_high j _ ge_inf = refl
+too_high j _ (ge_fin m e g) =
+    let h = whole_ge j m e g in
     let z : min (m * up e / down e) (2 ^ j - 1) ≡ 2 ^ j - 1 = omega arith in
     rw z
 
 -- neither below 2 ^ j nor at least: a NaN
-pub neither-unsigned : (w j : ℕ) (x : Float) → NotUnder j x → NotAtLeast j x → to_unsigned w x ≡ 0
+pub neither_unsigned : (w j : ℕ) (x : Float) → NotUnder j x → NotAtLeast j x → to_unsigned w x ≡ 0
 unfolding to_unsigned
-neither-unsigned w j _ nlt-nan n = refl
-neither-unsigned w j _ (nlt-fin m e g) (nge-fin _ _ h) = absurd (lt_irrefl _ (lt_of_lt_of_le h g))
+neither_unsigned w j _ nlt_nan n = refl
+neither_unsigned w j _ (nlt_fin m e g) (nge_fin _ _ h) = absurd (lt_irrefl _ (lt_of_lt_of_le h g))
 
 pub neither : (j : ℕ) (x : Float) → NotUnder j x → NotAtLeast j x → to_signed j x ≡ pos 0
 unfolding to_signed
-neither j _ nlt-nan n = refl
-neither j _ (nlt-fin m e g) (nge-fin _ _ h) = absurd (lt_irrefl _ (lt_of_lt_of_le h g))
+neither j _ nlt_nan n = refl
+neither j _ (nlt_fin m e g) (nge_fin _ _ h) = absurd (lt_irrefl _ (lt_of_lt_of_le h g))
 
-pub or-i : (a b : Bool) → T a → T (a || b)
-or-i true b t = tt
-or-i false b t = absurd t
+pub or_i : (a b : Bool) → T a → T (a || b)
+or_i true b t = tt
+or_i false b t = absurd t
 
 -- a ≤ b as a comparison of floats tests it, either way round
-pub le-or : (a b : ℕ) → a ≤ b → T (ltb a b || (eqb a b && true))
-le-or a b h = go (ltb a b) refl
+pub le_or : (a b : ℕ) → a ≤ b → T (ltb a b || (eqb a b && true))
+le_or a b h = go (ltb a b) refl
   where
     go : (p : Bool) → ltb a b ≡ p → T (p || (eqb a b && true))
     go true l = tt
     go false l = and_i (eqb a b) true (let z = ltb-false a b l in let q : a ≡ b = omega arith in eq→eqb q) tt
 
-pub ge-or : (a b : ℕ) → b ≤ a → T (ltb b a || (eqb a b && true))
-ge-or a b h = go (ltb b a) refl
+pub ge_or : (a b : ℕ) → b ≤ a → T (ltb b a || (eqb a b && true))
+ge_or a b h = go (ltb b a) refl
   where
     go : (p : Bool) → ltb b a ≡ p → T (p || (eqb a b && true))
     go true l = tt
     go false l = and_i (eqb a b) true (let z = ltb-false b a l in let q : a ≡ b = omega arith in eq→eqb q) tt
 
 -- the call's own range is wider
-pub low-wider : (j k : ℕ) (x : Float) → 2 ^ j ≤ 2 ^ k → AtLeastNeg j x → T (le (fin true 1 (pos k)) x)
+pub low_wider : (j k : ℕ) (x : Float) → 2 ^ j ≤ 2 ^ k → AtLeastNeg j x → T (le (fin true 1 (pos k)) x)
 unfolding le lt eq
-low-wider j k _ p gen-inf = tt
-low-wider j k _ p (gen-fin m e) =
-    or-i (ltb 0 (1 * 2 ^ k * down e + m * up e * 1))
+low_wider j k _ p gen_inf = tt
+low_wider j k _ p (gen_fin m e) =
+    or_i (ltb 0 (1 * 2 ^ k * down e + m * up e * 1))
     (eqb (1 * 2 ^ k * down e) (m * up e * 1) && eqb (1 * 2 ^ k * down e) 0)
     (lt→ltb 0 (1 * 2 ^ k * down e + m * up e * 1) (let z = mul-le-mul (pow_pos k) (down_pos e) in omega arith))
-low-wider j k _ p (gen-neg m e g) =
-    ge-or (1 * 2 ^ k * down e) (m * up e * 1) (let z =
+low_wider j k _ p (gen_neg m e g) =
+    ge_or (1 * 2 ^ k * down e) (m * up e * 1) (let z =
     mul-le-mul_right (down e) p in rw (one-mul, mul-one) (omega arith))
 
-pub high-wider : (j k : ℕ) (x : Float) → 2 ^ j ≤ 2 ^ k → Under j x → T (lt x (fin false 1 (pos k)))
+pub high_wider : (j k : ℕ) (x : Float) → 2 ^ j ≤ 2 ^ k → Under j x → T (lt x (fin false 1 (pos k)))
 unfolding lt
-high-wider j k _ p lt-inf = tt
-high-wider j k _ p (lt-neg m e) =
+high_wider j k _ p lt_inf = tt
+high_wider j k _ p (lt_neg m e) =
     lt→ltb 0 (m * up e * 1 + 1 * 2 ^ k * down e) (let z = mul-le-mul (pow_pos k) (down_pos e) in omega arith)
-high-wider j k _ p (lt-fin m e g) =
+high_wider j k _ p (lt_fin m e g) =
     lt→ltb (m * up e * 1) (1 * 2 ^ k * down e)
     (let z = mul-le-mul_right (down e) p in rw (one-mul, mul-one) (omega arith))
 
@@ -201,23 +201,23 @@ one_power : (k : ℕ) → 2 ^ k * 1 ≡ 1 → k ≡ 0
 one_power zero h = refl
 one_power (suc k) h = let p : 2 ^ suc k ≡ 2 ^ k * 2 = pow-suc 2 k in let q = pow_pos k in omega arith
 
-zero-fits : (s : Bool) (e : ℤ) → T (fits binary32 (fin s 0 e)) → e ≡ pos 0
+zero_fits : (s : Bool) (e : ℤ) → T (fits binary32 (fin s 0 e)) → e ≡ pos 0
 unfolding fits
-zero-fits s (pos k) f = ap pos (one_power k (eqb→eq (2 ^ k * 1) 1 f))
-zero-fits s (negsuc k) f = let p : 2 ^ suc k ≡ 2 ^ k * 2 = pow-suc 2 k in let q = pow_pos k in let h = eqb→eq (1 * 2 ^ suc k) 1 f in let z : ⊥ = omega arith in absurd z
+zero_fits s (pos k) f = ap pos (one_power k (eqb→eq (2 ^ k * 1) 1 f))
+zero_fits s (negsuc k) f = let p : 2 ^ suc k ≡ 2 ^ k * 2 = pow-suc 2 k in let q = pow_pos k in let h = eqb→eq (1 * 2 ^ suc k) 1 f in let z : ⊥ = omega arith in absurd z
 
 none : (n : ℕ) (e : ℤ) → eqb (n * up e * 1) (0 * 1 * down e) ≡ true → n ≡ 0
 none zero e h = refl
 none (suc n) e h = let z = eqb-true (suc n * up e * 1) (0 * 1 * down e) h in let o : 1 ≤ suc n = omega arith in let q = mul-le-mul o (up_pos e) in omega arith
 
-pub abs-zero : (x : Float) → T (fits binary32 x) → eq x (fin false 0 (pos 0)) ≡ true → fin false 0 (pos 0) ≡ magnitude x
+pub abs_zero : (x : Float) → T (fits binary32 x) → eq x (fin false 0 (pos 0)) ≡ true → fin false 0 (pos 0) ≡ magnitude x
 unfolding eq magnitude
-abs-zero nan f h = no h
-abs-zero (inf s) f h = no h
-abs-zero (fin s m e) f h =
+abs_zero nan f h = no h
+abs_zero (inf s) f h = no h
+abs_zero (fin s m e) f h =
     let z = none m e (both (eqb (m * up e * 1) (0 * 1 * down e)) (beq s false || eqb (m * up e * 1) 0) h).0 in
     let g : T (fits binary32 (fin s 0 e)) = subst (λ (n : ℕ). T (fits binary32 (fin s n e))) z f in
-    let y = zero-fits s e g in
+    let y = zero_fits s e g in
     rw (z, y)
 
 pub abs_neg : (x : Float) → lt x (fin false 0 (pos 0)) ≡ true → neg x ≡ magnitude x
@@ -228,17 +228,17 @@ abs_neg (inf false) h = no h
 abs_neg (fin true m e) h = refl
 abs_neg (fin false m e) h = let z = ltb-true (m * up e * 1) (0 * 1 * down e) h in let q : ⊥ = omega arith in absurd q
 
-pub abs-else : (x : Float) → lt x (fin false 0 (pos 0)) ≡ false → eq x (fin false 0 (pos 0)) ≡ false → x ≡ magnitude x
+pub abs_else : (x : Float) → lt x (fin false 0 (pos 0)) ≡ false → eq x (fin false 0 (pos 0)) ≡ false → x ≡ magnitude x
 unfolding lt eq magnitude
-abs-else nan h k = refl
-abs-else (inf true) h k = on h
-abs-else (inf false) h k = refl
-abs-else (fin false m e) h k = refl
-abs-else (fin true zero e) h k = absurd (some (0 * up e * 1) (0 * 1 * down e) (omega arith) (omega arith) k)
+abs_else nan h k = refl
+abs_else (inf true) h k = on h
+abs_else (inf false) h k = refl
+abs_else (fin false m e) h k = refl
+abs_else (fin true zero e) h k = absurd (some (0 * up e * 1) (0 * 1 * down e) (omega arith) (omega arith) k)
   where
     some : (a b : ℕ) → a ≡ 0 → b ≡ 0 → (eqb a b && eqb a 0) ≡ false → ⊥
     some a b p q g = on (sym (ap (λ (n : ℕ). eqb n b && eqb n 0) p ∙ ap (λ (n : ℕ). eqb 0 n && true) q) ∙ g)
-abs-else (fin true (suc m) e) h k =
+abs_else (fin true (suc m) e) h k =
     let z = ltb-false 0 (suc m * up e * 1 + 0 * 1 * down e) h in
     let o : 1 ≤ suc m = omega arith in
     let q = mul-le-mul o (up_pos e) in

@@ -13,22 +13,22 @@ pub back : (z : ℤ) → mag z < 2 ^ 31 → to_z w32 (of_z w32 z) ≡ z
 back z h = to_z-of_z w32 z (record { sfits = h })
 
 -- a number that is not negative is cast to itself
-pub up-cast : (z : ℤ) → mag z < 2 ^ 31 → le_z (pos 0) z ≡ true → T (non_neg z) × Fits w32 (nat_abs z)
-up-cast (pos n) h l = (tt, omega arith)
-up-cast (negsuc k) h l = no l
+pub up_cast : (z : ℤ) → mag z < 2 ^ 31 → le_z (pos 0) z ≡ true → T (non_neg z) × Fits w32 (nat_abs z)
+up_cast (pos n) h l = (tt, omega arith)
+up_cast (negsuc k) h l = no l
 
-pub up-bits : (z : ℤ) → le_z (pos 0) z ≡ true → nat_abs z ≡ of_z w32 z
-up-bits (pos n) l = refl
-up-bits (negsuc k) l = no l
+pub up_bits : (z : ℤ) → le_z (pos 0) z ≡ true → nat_abs z ≡ of_z w32 z
+up_bits (pos n) l = refl
+up_bits (negsuc k) l = no l
 
 -- -1 - z of a negative z
 pub flipped : (z : ℤ) → le_z (pos 0) z ≡ false → negsuc 0 -ℤ z ≡ pos (mag z)
 flipped (pos n) l = on (sym (le-leb 0 n (omega arith)) ∙ l)
 flipped (negsuc k) l = let e : suc k - 1 ≡ k = omega arith in rw (le-ltb (suc k) 1 (omega arith), e)
 
-pub down-bits : (z : ℤ) → le_z (pos 0) z ≡ false → mag z < 2 ^ 31 → 4294967295 - mag z ≡ of_z w32 z
-down-bits (pos n) l h = on (sym (le-leb 0 n (omega arith)) ∙ l)
-down-bits (negsuc k) l h = omega arith
+pub down_bits : (z : ℤ) → le_z (pos 0) z ≡ false → mag z < 2 ^ 31 → 4294967295 - mag z ≡ of_z w32 z
+down_bits (pos n) l h = on (sym (le-leb 0 n (omega arith)) ∙ l)
+down_bits (negsuc k) l h = omega arith
 
 minus_one : (n : ℕ) → negsuc 0 -ℤ pos n ≡ negsuc n
 minus_one zero = refl

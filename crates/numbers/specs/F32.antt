@@ -27,10 +27,10 @@ unfoldable pub decimal : ℕ → ℕ → Float
 unfolding round
 decimal n k = round binary32 false n (10 ^ k)
 
--- and its negative: -14.0 is `minusDecimal 14 0`
-unfoldable pub minusDecimal : ℕ → ℕ → Float
+-- and its negative: -14.0 is `minus_decimal 14 0`
+unfoldable pub minus_decimal : ℕ → ℕ → Float
 unfolding round
-minusDecimal n k = round binary32 true n (10 ^ k)
+minus_decimal n k = round binary32 true n (10 ^ k)
 
 -- n as f32, rounded
 abbrev pub as_float : ℕ → Float

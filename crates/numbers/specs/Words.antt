@@ -21,8 +21,8 @@ abbrev pub shifted32 : ℕ → ℕ → ℕ
 shifted32 a n = (a * 2 ^ (n % 32)) % 2 ^ 32
 
 -- the same sum and difference of signed numbers, by their bits
-unfoldable pub sumSigned : ℤ → ℤ → ℤ
-sumSigned a b = to_z w32 (sum32 (of_z w32 a) (of_z w32 b))
+unfoldable pub sum_signed : ℤ → ℤ → ℤ
+sum_signed a b = to_z w32 (sum32 (of_z w32 a) (of_z w32 b))
 
-unfoldable pub differenceSigned : ℤ → ℤ → ℤ
-differenceSigned a b = to_z w32 (difference32 (of_z w32 a) (of_z w32 b))
+unfoldable pub difference_signed : ℤ → ℤ → ℤ
+difference_signed a b = to_z w32 (difference32 (of_z w32 a) (of_z w32 b))

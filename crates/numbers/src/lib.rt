@@ -9,7 +9,7 @@ ghost use Rattle.std.specs.Int.{w32};
 ghost use Rattle.std.proofs.Common.{of_z, to_z};
 ghost use Rattle.numbers.specs.Extremes.{minimum, maximum, magnitude, clamped};
 ghost use Rattle.numbers.specs.Words.{sum32, difference32, product32, shifted32};
-ghost use Rattle.numbers.specs.Words.{sumSigned, differenceSigned};
+ghost use Rattle.numbers.specs.Words.{sum_signed, difference_signed};
 
 // Rust's `x as u32`: the fraction dropped, the nearer end where x is out of range, 0 for a NaN. From
 // 2^23 on an f32 is whole, so the cast by way of f64 loses nothing: two compares and one conversion.
@@ -127,14 +127,14 @@ pub fn u32_as_i32(b: u32) -> i32
 
 // Rust's sum of two i32 in a release build: it wraps.
 pub fn wrapping_add_i32(a: i32, b: i32) -> i32
-    ensures { result ≡ sumSigned a b }
+    ensures { result ≡ sum_signed a b }
 {
     u32_as_i32(wrapping_add_u32(i32_as_u32(a), i32_as_u32(b)))
 }
 
 // And the difference.
 pub fn wrapping_sub_i32(a: i32, b: i32) -> i32
-    ensures { result ≡ differenceSigned a b }
+    ensures { result ≡ difference_signed a b }
 {
     u32_as_i32(wrapping_sub_u32(i32_as_u32(a), i32_as_u32(b)))
 }

@@ -11,19 +11,19 @@ use Rattle.operator.specs.Sample.{mixed}
 use Rattle.operator.specs.Chain.{Source, Chain, heard, next, written}
 
 module _ (pairs : List Float) (source : Source) where
-  pub length-written : (add : Bool) (i : ℕ) (s : Chain) (out : List Float)
+  pub length_written : (add : Bool) (i : ℕ) (s : Chain) (out : List Float)
       → length (written pairs source add i s out) ≡ length out
   unfolding written
-  length-written add i s [] = refl
-  length-written add i s (there ∷ out) = ap suc (length-written add (suc i) (next pairs source i s) out)
+  length_written add i s [] = refl
+  length_written add i s (there ∷ out) = ap suc (length_written add (suc i) (next pairs source i s) out)
 
   -- set ignores what stood there
-  pub set-ignores : (i : ℕ) (s : Chain) (out other : List Float) → length out ≡ length other
+  pub set_ignores : (i : ℕ) (s : Chain) (out other : List Float) → length out ≡ length other
       → written pairs source false i s out ≡ written pairs source false i s other
   unfolding written mixed
-  set-ignores i s [] [] e = refl
-  set-ignores i s [] (p ∷ other) e = absurd (suc-ne-zero _ (sym e))
-  set-ignores i s (o ∷ out) [] e = absurd (suc-ne-zero _ e)
-  set-ignores i s (o ∷ out) (p ∷ other) e =
+  set_ignores i s [] [] e = refl
+  set_ignores i s [] (p ∷ other) e = absurd (suc-ne-zero _ (sym e))
+  set_ignores i s (o ∷ out) [] e = absurd (suc-ne-zero _ e)
+  set_ignores i s (o ∷ out) (p ∷ other) e =
       ap (λ (l : List Float). heard pairs source i s ∷ l)
-      (set-ignores (suc i) (next pairs source i s) out other (suc_inj e))
+      (set_ignores (suc i) (next pairs source i s) out other (suc_inj e))

@@ -11,7 +11,7 @@ use lib.ListN.{length, drop, get_or, set, length-set, drop_of_length-le}
 use lib.Seq.{take_all, take-suc-set, drop-set-lt, drop-cons, append_snoc}
 use lib.Ieee.{Float, nan}
 use Rattle.operator.specs.Sample.{mixed}
-use Rattle.operator.specs.Chain.{Source, Chain, entered, kept, through, allMoved, heard, next, ended, written}
+use Rattle.operator.specs.Chain.{Source, Chain, entered, kept, through, all_moved, heard, next, ended, written}
 use Rattle.operator.specs.Chain.{Rendered}
 use Rattle.operator.specs.Parts.{Going}
 use Rattle.operator.specs.declared.Lane.{Lane}
@@ -19,22 +19,22 @@ use Rattle.operator.specs.declared.Feedback.{Feedback}
 
 -- one sample more
 module _ (pairs : List Float) (source : Source) (add : Bool) where
-  written-more : (i : ℕ) (s : Chain) (out : List Float) → i < length out
+  written_more : (i : ℕ) (s : Chain) (out : List Float) → i < length out
       → written pairs source add i s (drop i out)
       ≡ mixed add (get_or out i nan) (heard pairs source i s) ∷ written pairs source add (suc i) (next pairs source i s)
       (drop (suc i) out)
   unfolding written
-  written-more i s out h = ap (written pairs source add i s) (drop-cons out i nan h)
+  written_more i s out h = ap (written pairs source add i s) (drop-cons out i nan h)
 
-  ended-more : (i : ℕ) (s : Chain) (out : List Float) → i < length out
+  ended_more : (i : ℕ) (s : Chain) (out : List Float) → i < length out
       → ended pairs source (length (drop i out)) i s
       ≡ ended pairs source (length (drop (suc i) out)) (suc i) (next pairs source i s)
   unfolding ended
-  ended-more i s out h = ap (λ (l : List Float). ended pairs source (length l) i s) (drop-cons out i nan h)
+  ended_more i s out h = ap (λ (l : List Float). ended pairs source (length l) i s) (drop-cons out i nan h)
 
 module _ {pairs : List Float} {source : Source} {add : Bool} where
-  pub going-first : {i : ℕ} {s : Chain} {out : List Float} → Going pairs source add i s out i s out
-  going-first = record { samples = refl; chains = refl; size = refl }
+  pub going_first : {i : ℕ} {s : Chain} {out : List Float} → Going pairs source add i s out i s out
+  going_first = record { samples = refl; chains = refl; size = refl }
 
   -- part after part
   pub going_on : {i j k : ℕ} {s t u : Chain} {out mid after : List Float}
@@ -46,11 +46,11 @@ module _ {pairs : List Float} {source : Source} {add : Bool} where
     size = h.size ∙ g.size;
   }
 
-  pub going-turn : {i j : ℕ} {s t t' : Chain} {out after : List Float} {v : Float}
+  pub going_turn : {i j : ℕ} {s t t' : Chain} {out after : List Float} {v : Float}
       → Going pairs source add i s out j t after → j < length after
       → t' ≡ next pairs source j t → v ≡ mixed add (get_or after j nan) (heard pairs source j t)
       → Going pairs source add i s out (j + 1) t' (set after j v)
-  going-turn {j = j} {t = t} {after = after} {v = v} r h et ev =
+  going_turn {j = j} {t = t} {after = after} {v = v} r h et ev =
       let past = drop-set-lt (suc j) after j v (le_refl (suc j)) in
       record {
         samples = rw (
@@ -60,20 +60,20 @@ module _ {pairs : List Float} {source : Source} {add : Bool} where
           append_snoc,
           et,
           ev,
-          ← written-more pairs source add j t after h,
+          ← written_more pairs source add j t after h,
         ) r.samples;
-        chains = rw (add-one j, past, et, ← ended-more pairs source add j t after h) r.chains;
+        chains = rw (add-one j, past, et, ← ended_more pairs source add j t after h) r.chains;
         size = length-set after j v ∙ r.size;
       }
 
   -- the same by the chain's parts, as a turn of the code makes them
-  pub turn-parts : {i j : ℕ} {s : Chain} {ls ls' : List Lane} {f f' : Feedback} {out after : List Float} {pm v : Float}
+  pub turn_parts : {i j : ℕ} {s : Chain} {ls ls' : List Lane} {f f' : Feedback} {out after : List Float} {pm v : Float}
       → Going pairs source add i s out j (record { lanes = ls; feedback = f }) after → j < length after
       → pm ≡ through pairs ls (entered source j f)
-      → ls' ≡ allMoved ls → f' ≡ kept source f pm → v ≡ mixed add (get_or after j nan) pm
+      → ls' ≡ all_moved ls → f' ≡ kept source f pm → v ≡ mixed add (get_or after j nan) pm
       → Going pairs source add i s out (j + 1) (record { lanes = ls'; feedback = f' }) (set after j v)
   unfolding heard next
-  turn-parts r h ep el ef ev = going-turn r h (rw (el, ef, ep)) (rw (ev, ep))
+  turn_parts r h ep el ef ev = going_turn r h (rw (el, ef, ep)) (rw (ev, ep))
 
   -- the whole block
   pub going_done : {j : ℕ} {s t : Chain} {out after : List Float}

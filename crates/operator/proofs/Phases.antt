@@ -9,40 +9,40 @@ use mathlib.Core.List.{List, [], ◌∷◌}
 use lib.ListN.{length, get_or}
 use lib.Ieee.{Float, nan}
 use Rattle.operator.specs.Sample.{moved}
-use Rattle.operator.specs.Chain.{Source, Chain, allMoved, next, ended}
+use Rattle.operator.specs.Chain.{Source, Chain, all_moved, next, ended}
 use Rattle.operator.specs.declared.Lane.{Lane}
 
 -- what stands past a chain's last operator
-abbrev pub noLane : Lane
-noLane = record { phase = 0; amplitude = nan; step = 0; increment = nan }
+abbrev pub no_lane : Lane
+no_lane = record { phase = 0; amplitude = nan; step = 0; increment = nan }
 
-pub length_moved : (ls : List Lane) → length (allMoved ls) ≡ length ls
-unfolding allMoved
+pub length_moved : (ls : List Lane) → length (all_moved ls) ≡ length ls
+unfolding all_moved
 length_moved [] = refl
 length_moved (l ∷ ls) = ap suc (length_moved ls)
 
-moved_at : (ls : List Lane) (k : ℕ) → k < length ls → get_or (allMoved ls) k noLane ≡ moved (get_or ls k noLane)
-unfolding allMoved
+moved_at : (ls : List Lane) (k : ℕ) → k < length ls → get_or (all_moved ls) k no_lane ≡ moved (get_or ls k no_lane)
+unfolding all_moved
 moved_at [] k h = absurd (not-suc-le-zero h)
 moved_at (l ∷ ls) zero h = refl
 moved_at (l ∷ ls) (suc k) h = moved_at ls k (le_of_suc-le-suc h)
 
 module _ (pairs : List Float) (source : Source) where
-  pub length-ended : (size i : ℕ) (s : Chain) → length (ended pairs source size i s).lanes ≡ length s.lanes
+  pub length_ended : (size i : ℕ) (s : Chain) → length (ended pairs source size i s).lanes ≡ length s.lanes
   unfolding ended next
-  length-ended zero i s = refl
-  length-ended (suc size) i s = length-ended size (suc i) (next pairs source i s) ∙ length_moved s.lanes
+  length_ended zero i s = refl
+  length_ended (suc size) i s = length_ended size (suc i) (next pairs source i s) ∙ length_moved s.lanes
 
-  pub phase-ended : (size i : ℕ) (s : Chain) (k : ℕ) → k < length s.lanes → (get_or s.lanes k noLane).phase < 2 ^ 32
-      → (get_or (ended pairs source size i s).lanes k noLane).phase
-      ≡ ((get_or s.lanes k noLane).phase + size * (get_or s.lanes k noLane).step) % 2 ^ 32
+  pub phase_ended : (size i : ℕ) (s : Chain) (k : ℕ) → k < length s.lanes → (get_or s.lanes k no_lane).phase < 2 ^ 32
+      → (get_or (ended pairs source size i s).lanes k no_lane).phase
+      ≡ ((get_or s.lanes k no_lane).phase + size * (get_or s.lanes k no_lane).step) % 2 ^ 32
   unfolding ended next moved
-  phase-ended zero i s k h f = omega (arith, zero-mul (get_or s.lanes k noLane).step)
-  phase-ended (suc size) i s k h f =
+  phase_ended zero i s k h f = omega (arith, zero-mul (get_or s.lanes k no_lane).step)
+  phase_ended (suc size) i s k h f =
       let t = next pairs source i s in
-      let l = get_or s.lanes k noLane in
+      let l = get_or s.lanes k no_lane in
       let m = moved_at s.lanes k h in
       let p = ap (λ (l : Lane). l.phase) m in
       let q = ap (λ (l : Lane). l.step) m in
-      let r = phase-ended size (suc i) t k (rw (length_moved s.lanes) h) (rw p (omega arith)) in
+      let r = phase_ended size (suc i) t k (rw (length_moved s.lanes) h) (rw p (omega arith)) in
       r ∙ rw (p, q) (omega (arith, suc-mul size l.step))

@@ -33,13 +33,13 @@ three s = record { lanes = s.first ∷ s.second ∷ s.third ∷ []; feedback = s
 unfoldable pub entered : Source → ℕ → Feedback → Float
 entered none i f = decimal 0 0
 entered (external modulation) i f = get_or modulation i nan
-entered (feedback feedback-scale) i f = fed f feedback-scale
+entered (feedback feedback_scale_lem) i f = fed f feedback_scale_lem
 
 -- the feedback after a sample of the chain
 unfoldable pub kept : Source → Feedback → Float → Feedback
 kept none f pm = f
 kept (external modulation) f pm = f
-kept (feedback feedback-scale) f pm = pushed f pm
+kept (feedback feedback_scale_lem) f pm = pushed f pm
 
 -- each operator's sample modulates the next
 unfoldable pub through : List Float → List Lane → Float → Float
@@ -47,9 +47,9 @@ through pairs [] pm = pm
 through pairs (l ∷ ls) pm = through pairs ls (sampled pairs l pm)
 
 -- every operator, a sample further
-unfoldable pub allMoved : List Lane → List Lane
-allMoved [] = []
-allMoved (l ∷ ls) = moved l ∷ allMoved ls
+unfoldable pub all_moved : List Lane → List Lane
+all_moved [] = []
+all_moved (l ∷ ls) = moved l ∷ all_moved ls
 
 module _ (pairs : List Float) (source : Source) where
   -- sample i of the chain
@@ -58,7 +58,7 @@ module _ (pairs : List Float) (source : Source) where
 
   -- the chain after it
   unfoldable pub next : ℕ → Chain → Chain
-  next i s = record { lanes = allMoved s.lanes; feedback = kept source s.feedback (heard i s) }
+  next i s = record { lanes = all_moved s.lanes; feedback = kept source s.feedback (heard i s) }
 
   -- the chain after `size` samples from sample i on
   unfoldable pub ended : ℕ → ℕ → Chain → Chain

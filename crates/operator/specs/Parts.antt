@@ -3,13 +3,13 @@
 use Rattle.std.specs.Prelude.{ℕ, zero, suc, ◌+◌, ◌<◌, ◌≡◌, Bool, true, ◌&&◌, List, [], ◌∷◌, ◌++◌, get_or, length, take, drop, Float}
 use Rattle.std.specs.Float.{nan}
 use Rattle.numbers.specs.Words.{sum32}
-use Rattle.sine.specs.Sine.{nearBy, modulated}
+use Rattle.sine.specs.Sine.{near_by, modulated}
 use Rattle.operator.specs.Chain.{Source, Chain, written, ended}
 
 -- whether each modulation lies from -31 to 30 turns
-unfoldable pub allNear : List Float → Bool
-allNear [] = true
-allNear (pm ∷ pms) = nearBy pm && allNear pms
+unfoldable pub all_near : List Float → Bool
+all_near [] = true
+all_near (pm ∷ pms) = near_by pm && all_near pms
 
 -- a phase so many steps on, wrapped
 unfoldable pub stepped : ℕ → ℕ → ℕ → ℕ

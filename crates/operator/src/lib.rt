@@ -2,10 +2,10 @@
 // the renderers that a plan can name. Each promises one thing, `Rendered`, for every input: the samples and the chain
 // after them. `pairs` are the sine's values and differences, lent; `s` is the chain as it comes.
 ghost use Rattle.std.specs.Prelude.{◌≡◌, true, ◌+◌, ◌≤◌, length};
-ghost use Rattle.operator.specs.Sample.{still, lane_of, operatorOf, moved, sampled, fed, pushed, mixed};
-ghost use Rattle.operator.specs.Sample.{feedbackScale, rampScale};
+ghost use Rattle.operator.specs.Sample.{still, lane_of, operator_of, moved, sampled, fed, pushed, mixed};
+ghost use Rattle.operator.specs.Sample.{feedback_scale_of, ramp_scale};
 ghost use Rattle.operator.specs.Chain.{Source, one, two, three, Rendered};
-ghost use Rattle.operator.specs.Parts.{allNear, Placed, Going};
+ghost use Rattle.operator.specs.Parts.{all_near, Placed, Going};
 
 // What a block leaves behind of an operator.
 #[derive(Drop)]
@@ -73,14 +73,14 @@ pub struct Triple {
 
 // What an amplitude's way to its target is multiplied by for one of `size` samples.
 pub fn ramp_scale(size: u32) -> f32
-    ensures { result ≡ rampScale size }
+    ensures { result ≡ ramp_scale size }
 {
     1.0 / numbers::u32_as_f32(size)
 }
 
 // What the feedback's sum is multiplied by. A patch's amount is at most 7.
 pub fn feedback_scale(amount: u8) -> f32
-    ensures { result ≡ feedbackScale amount }
+    ensures { result ≡ feedback_scale_of amount }
 {
     if amount == 0 {
         return 0.0;
@@ -102,7 +102,7 @@ pub fn enter(operator: Operator, step: u32, target: f32, ramp: f32) -> Lane
 
 // And at its end.
 pub fn leave(lane: Lane) -> Operator
-    ensures { result ≡ operatorOf lane }
+    ensures { result ≡ operator_of lane }
 {
     Operator {
         phase: lane.phase,
@@ -190,7 +190,7 @@ fn far(pairs: &[f32; 1024], s: Single, add: bool, modulation: &[f32], out: &mut 
 
 // Whether every modulation lies from -31 to 30 turns.
 fn all_near(modulation: &[f32]) -> bool
-    ensures { result ≡ allNear modulation.now }
+    ensures { result ≡ all_near modulation.now }
 {
     let mut near = true;
     let mut i = 0usize;
@@ -206,7 +206,7 @@ fn all_near(modulation: &[f32]) -> bool
 
 // The modulated phases of n samples from sample i on.
 fn set_phases(modulation: &[f32], i: usize, n: usize, phase: u32, step: u32, at: &mut [u32; 64])
-    requires { (allNear modulation.now ≡ true) × (i + n ≤ length modulation.now)
+    requires { (all_near modulation.now ≡ true) × (i + n ≤ length modulation.now)
         × (n ≤ 64) × (length at.old ≡ 64) }
     ensures { Placed modulation.now i n phase step at.new
         × (length at.new ≡ 64) }
@@ -262,7 +262,7 @@ fn portion(i: usize, all: usize) -> usize
 
 // A whole block by parts.
 fn near(pairs: &[f32; 1024], s: Single, add: bool, modulation: &[f32], out: &mut [f32]) -> Single
-    requires { (allNear modulation.now ≡ true) × (length out.old ≤ length modulation.now) }
+    requires { (all_near modulation.now ≡ true) × (length out.old ≤ length modulation.now) }
     ensures { Rendered pairs.now (Source.external modulation.now) add
         (one s) out.old (one result) out.new }
 {

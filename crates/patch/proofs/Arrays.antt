@@ -12,25 +12,25 @@ use denote.Laws.{Is}
 use denote.Shadow.{shadow}
 use Rattle.patch.specs.declared.Operator.{Operator}
 use Rattle.patch.specs.declared.Patch.{Patch}
-use Rattle.patch.specs.Form.{operatorAt, noOperator, ShapedEnvelope, Shaped}
+use Rattle.patch.specs.Form.{operator_at, no_operator, ShapedEnvelope, Shaped}
 use Rattle.patch.specs.contracts.Patch as T
 use Rattle.patch.specs.contracts.Operator as O
 
-operator-shaped : (o : Operator) (vs : List Val) → shadow ((O.the_field).row.own_val ((O.the_field).into o) vs)
+operator_shaped : (o : Operator) (vs : List Val) → shadow ((O.the_field).row.own_val ((O.the_field).into o) vs)
     → ShapedEnvelope o.envelope
-operator-shaped o vs g = record { rates = search rules; levels = search rules }
+operator_shaped o vs g = record { rates = search rules; levels = search rules }
 
-each-shaped : (os : List Operator) (us : List Val)
+each_shaped : (os : List Operator) (us : List Val)
     → shadow (each (O.the_field).row.Denot (O.the_field).row.own_val (map (O.the_field).into os) us) → (k : ℕ)
-    → k < length os → ShapedEnvelope (get_or os k noOperator).envelope
-each-shaped [] us g k h = let z : ⊥ = omega arith in absurd z
-each-shaped (o ∷ os) [] g k h = absurd g
-each-shaped (o ∷ os) (u ∷ us) g zero h = operator-shaped o (u ∷ []) g.0
-each-shaped (o ∷ os) (u ∷ us) g (suc k) h = each-shaped os us g.1 k (omega arith)
+    → k < length os → ShapedEnvelope (get_or os k no_operator).envelope
+each_shaped [] us g k h = let z : ⊥ = omega arith in absurd z
+each_shaped (o ∷ os) [] g k h = absurd g
+each_shaped (o ∷ os) (u ∷ us) g zero h = operator_shaped o (u ∷ []) g.0
+each_shaped (o ∷ os) (u ∷ us) g (suc k) h = each_shaped os us g.1 k (omega arith)
 
 -- `c.good` of a parameter, and `.ok` of a call's result, have such a fact
 pub shaped : (p : Patch) (vs : List Val) → Is T.the_row p vs → Shaped p
-unfolding operatorAt
+unfolding operator_at
 shaped p vs g =
     let six : length p.op ≡ 6 = sym (length-map p.op (O.the_field).into) ∙ g.1.1.0.1.0.1 in
-    record { operators = six; envelopes = λ k h. each-shaped p.op g.1.1.0.0 g.1.1.0.1.1 k (omega arith); pitch = record { rates = search rules; levels = search rules }; letters = search rules }
+    record { operators = six; envelopes = λ k h. each_shaped p.op g.1.1.0.0 g.1.1.0.1.1 k (omega arith); pitch = record { rates = search rules; levels = search rules }; letters = search rules }

@@ -24,9 +24,9 @@ module _ {N : Type 0} where
   each t [] e = tt
   each t (n ∷ ns) e = let h = (and-eq-true_iff (t n) (every t ns)).0 e in (h.0, each t ns h.1)
 
-  pub both-each : {P Q R : N → Type 0} → ((n : N) → P n → Q n → R n) → (ns : List N) → Each P ns → Each Q ns → Each R ns
-  both-each f [] ps qs = tt
-  both-each f (n ∷ ns) (p, ps) (q, qs) = (f n p q, both-each f ns ps qs)
+  pub both_each : {P Q R : N → Type 0} → ((n : N) → P n → Q n → R n) → (ns : List N) → Each P ns → Each Q ns → Each R ns
+  both_each f [] ps qs = tt
+  both_each f (n ∷ ns) (p, ps) (q, qs) = (f n p q, both_each f ns ps qs)
 
   pub map_each : {B : Type 0} (f h : N → B) (ns : List N) → Each (λ n. f n ≡ h n) ns → map f ns ≡ map h ns
   map_each f h [] es = refl
@@ -44,7 +44,7 @@ module _ {N : Type 0} (field : N → Field) (g : N → ℕ) where
       let p = (and-eq-true_iff (leb (g n) (field n).largest) (within field g ns)).0 e in
       (leb-true (g n) (field n).largest p.0, each_within ns p.1)
 
-  pub within-each : (ns : List N) → Each (λ n. g n ≤ (field n).largest) ns → within field g ns ≡ true
+  pub within_each : (ns : List N) → Each (λ n. g n ≤ (field n).largest) ns → within field g ns ≡ true
   unfolding within
-  within-each [] es = refl
-  within-each (n ∷ ns) (e, es) = rw (le-leb (g n) (field n).largest e) (within-each ns es)
+  within_each [] es = refl
+  within_each (n ∷ ns) (e, es) = rw (le-leb (g n) (field n).largest e) (within_each ns es)

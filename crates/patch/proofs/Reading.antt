@@ -5,32 +5,32 @@ use mathlib.Core.Bool.{true}
 use mathlib.Core.List.{List, map}
 use Prim.Native.Nat.{ℕ, ◌≤◌}
 use native.Mathlib.Omega.{arith}
-use Rattle.patch.specs.Layout.{limitOf, later, envelopeField, scalingField, operatorField, lfoField, field_of}
-use Rattle.patch.specs.Layout.{envelopeNames, scalingNames, operatorNames, lfoNames, letters, sharedNames, layout}
-use Rattle.patch.specs.Form.{number_of, patchWith}
-use Rattle.patch.specs.Packed.{readIn, unpacked, patchFits}
-use Rattle.patch.proofs.Positions.{numbers-with}
-use Rattle.patch.proofs.Each.{Each, both-each, each_map, within-each}
+use Rattle.patch.specs.Layout.{limit_of, later, envelope_field, scaling_field, operator_field, lfo_field, field_of}
+use Rattle.patch.specs.Layout.{envelope_names, scaling_names, operator_names, lfo_names, letters, shared_names, layout}
+use Rattle.patch.specs.Form.{number_of, patch_with}
+use Rattle.patch.specs.Packed.{read_in, unpacked, patch_fits}
+use Rattle.patch.proofs.Positions.{numbers_with}
+use Rattle.patch.proofs.Each.{Each, both_each, each_map, within_each}
 
 -- the packed form's largest numbers are the table's limits
-pub limits-of-packed : map (λ n. (field_of n).largest) layout ≡ map limitOf layout
-unfolding layout operatorNames envelopeNames scalingNames lfoNames letters sharedNames field_of later operatorField
-    envelopeField scalingField lfoField
-limits-of-packed = refl
+pub limits_of_packed : map (λ n. (field_of n).largest) layout ≡ map limit_of layout
+unfolding layout operator_names envelope_names scaling_names lfo_names letters shared_names field_of later operator_field
+    envelope_field scaling_field lfo_field
+limits_of_packed = refl
 
 -- the layout's numbers of an unpacked patch are its fields read from the bytes
-pub numbers-of-unpacked : (s : List ℕ) → map (number_of (unpacked s)) layout ≡ map (λ n. readIn s (field_of n)) layout
+pub numbers_of_unpacked : (s : List ℕ) → map (number_of (unpacked s)) layout ≡ map (λ n. read_in s (field_of n)) layout
 unfolding unpacked
-numbers-of-unpacked s = numbers-with (λ n. readIn s (field_of n)) 63
+numbers_of_unpacked s = numbers_with (λ n. read_in s (field_of n)) 63
 
-pub numbers-read : (s : List ℕ) → Each (λ n. number_of (unpacked s) n ≡ readIn s (field_of n)) layout
-numbers-read s = each_map (number_of (unpacked s)) (λ n. readIn s (field_of n)) layout (numbers-of-unpacked s)
+pub numbers_read : (s : List ℕ) → Each (λ n. number_of (unpacked s) n ≡ read_in s (field_of n)) layout
+numbers_read s = each_map (number_of (unpacked s)) (λ n. read_in s (field_of n)) layout (numbers_of_unpacked s)
 
-pub numbers-low : (s : List ℕ) → Each (λ n. number_of (unpacked s) n ≤ (field_of n).largest) layout
-unfolding readIn
-numbers-low s = both-each (λ n e u. omega arith) layout (numbers-read s) (numbers-read s)
+pub numbers_low : (s : List ℕ) → Each (λ n. number_of (unpacked s) n ≤ (field_of n).largest) layout
+unfolding read_in
+numbers_low s = both_each (λ n e u. omega arith) layout (numbers_read s) (numbers_read s)
 
 -- an unpacked patch is never refused by 6
-pub unpacked-fits : (s : List ℕ) → patchFits (unpacked s) ≡ true
-unfolding patchFits unpacked patchWith
-unpacked-fits s = rw (within-each field_of (number_of (unpacked s)) layout (numbers-low s))
+pub unpacked_fits : (s : List ℕ) → patch_fits (unpacked s) ≡ true
+unfolding patch_fits unpacked patch_with
+unpacked_fits s = rw (within_each field_of (number_of (unpacked s)) layout (numbers_low s))

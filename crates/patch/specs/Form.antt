@@ -14,14 +14,14 @@ use Rattle.patch.specs.Layout.{LfoName, LfoRate, LfoDelay, PitchDepth, Amplitude
 use Rattle.patch.specs.Layout.{PitchSensitivity}
 use Rattle.patch.specs.Layout.{Place, Of, Pitch, Algorithm, Feedback, Reset, Lfo, Transpose, Letter}
 
-unfoldable pub envelopeWith : (EnvelopeName → ℕ) → Envelope
-envelopeWith g = record {
+unfoldable pub envelope_with : (EnvelopeName → ℕ) → Envelope
+envelope_with g = record {
   rate = g (Rate 0) ∷ g (Rate 1) ∷ g (Rate 2) ∷ g (Rate 3) ∷ [];
   level = g (Level 0) ∷ g (Level 1) ∷ g (Level 2) ∷ g (Level 3) ∷ [];
 }
 
-unfoldable pub scalingWith : (ScalingName → ℕ) → KeyboardScaling
-scalingWith g = record {
+unfoldable pub scaling_with : (ScalingName → ℕ) → KeyboardScaling
+scaling_with g = record {
   left_depth = g LeftDepth;
   right_depth = g RightDepth;
   left_curve = g LeftCurve;
@@ -29,10 +29,10 @@ scalingWith g = record {
   break_point = g BreakPoint;
 }
 
-unfoldable pub operatorWith : (OperatorName → ℕ) → Operator
-operatorWith g = record {
-  envelope = envelopeWith (λ n. g (Stage n));
-  keyboard_scaling = scalingWith (λ n. g (Scaling n));
+unfoldable pub operator_with : (OperatorName → ℕ) → Operator
+operator_with g = record {
+  envelope = envelope_with (λ n. g (Stage n));
+  keyboard_scaling = scaling_with (λ n. g (Scaling n));
   rate_scaling = g RateScaling;
   amp_mod_sensitivity = g AmplitudeSensitivity;
   velocity_sensitivity = g VelocitySensitivity;
@@ -43,8 +43,8 @@ operatorWith g = record {
   detune = g Detune;
 }
 
-unfoldable pub modulationsWith : (LfoName → ℕ) → ModulationParameters
-modulationsWith g = record {
+unfoldable pub modulations_with : (LfoName → ℕ) → ModulationParameters
+modulations_with g = record {
   delay = g LfoDelay;
   rate = g LfoRate;
   pitch_mod_depth = g PitchDepth;
@@ -54,68 +54,68 @@ modulationsWith g = record {
   pitch_mod_sensitivity = g PitchSensitivity;
 }
 
-unfoldable pub nameWith : (Place → ℕ) → List ℕ
-nameWith g =
+unfoldable pub name_with : (Place → ℕ) → List ℕ
+name_with g =
     g (Letter 0) ∷ g (Letter 1) ∷ g (Letter 2) ∷ g (Letter 3) ∷ g (Letter 4)
     ∷ g (Letter 5) ∷ g (Letter 6) ∷ g (Letter 7) ∷ g (Letter 8) ∷ g (Letter 9) ∷ []
 
 -- the patch with these numbers and this number of active operators
-unfoldable pub patchWith : (Place → ℕ) → ℕ → Patch
-patchWith g active = record {
+unfoldable pub patch_with : (Place → ℕ) → ℕ → Patch
+patch_with g active = record {
   op =
-      operatorWith (λ n. g (Of 0 n)) ∷ operatorWith (λ n. g (Of 1 n)) ∷ operatorWith (λ n. g (Of 2 n))
-      ∷ operatorWith (λ n. g (Of 3 n)) ∷ operatorWith (λ n. g (Of 4 n)) ∷ operatorWith (λ n. g (Of 5 n)) ∷ [];
-  pitch_envelope = envelopeWith (λ n. g (Pitch n));
+      operator_with (λ n. g (Of 0 n)) ∷ operator_with (λ n. g (Of 1 n)) ∷ operator_with (λ n. g (Of 2 n))
+      ∷ operator_with (λ n. g (Of 3 n)) ∷ operator_with (λ n. g (Of 4 n)) ∷ operator_with (λ n. g (Of 5 n)) ∷ [];
+  pitch_envelope = envelope_with (λ n. g (Pitch n));
   algorithm = g Algorithm;
   feedback = g Feedback;
   reset_phase = g Reset;
-  modulations = modulationsWith (λ n. g (Lfo n));
+  modulations = modulations_with (λ n. g (Lfo n));
   transpose = g Transpose;
-  name = nameWith g;
+  name = name_with g;
   active_operators = active;
 }
 
 -- the patch of zeros, which a voice stores while it has none
-unfoldable pub zeroPatch : Patch
-zeroPatch = patchWith (λ n. 0) 0
+unfoldable pub zero_patch : Patch
+zero_patch = patch_with (λ n. 0) 0
 
-unfoldable pub envelopeNumber : Envelope → EnvelopeName → ℕ
-envelopeNumber e (Rate i) = get_or e.rate i 0
-envelopeNumber e (Level i) = get_or e.level i 0
+unfoldable pub envelope_number : Envelope → EnvelopeName → ℕ
+envelope_number e (Rate i) = get_or e.rate i 0
+envelope_number e (Level i) = get_or e.level i 0
 
-unfoldable pub scalingNumber : KeyboardScaling → ScalingName → ℕ
-scalingNumber k BreakPoint = k.break_point
-scalingNumber k LeftDepth = k.left_depth
-scalingNumber k RightDepth = k.right_depth
-scalingNumber k LeftCurve = k.left_curve
-scalingNumber k RightCurve = k.right_curve
+unfoldable pub scaling_number : KeyboardScaling → ScalingName → ℕ
+scaling_number k BreakPoint = k.break_point
+scaling_number k LeftDepth = k.left_depth
+scaling_number k RightDepth = k.right_depth
+scaling_number k LeftCurve = k.left_curve
+scaling_number k RightCurve = k.right_curve
 
-unfoldable pub operatorNumber : Operator → OperatorName → ℕ
-operatorNumber o (Stage n) = envelopeNumber o.envelope n
-operatorNumber o (Scaling n) = scalingNumber o.keyboard_scaling n
-operatorNumber o RateScaling = o.rate_scaling
-operatorNumber o Detune = o.detune
-operatorNumber o AmplitudeSensitivity = o.amp_mod_sensitivity
-operatorNumber o VelocitySensitivity = o.velocity_sensitivity
-operatorNumber o OutputLevel = o.level
-operatorNumber o Mode = o.mode
-operatorNumber o Coarse = o.coarse
-operatorNumber o Fine = o.fine
+unfoldable pub operator_number : Operator → OperatorName → ℕ
+operator_number o (Stage n) = envelope_number o.envelope n
+operator_number o (Scaling n) = scaling_number o.keyboard_scaling n
+operator_number o RateScaling = o.rate_scaling
+operator_number o Detune = o.detune
+operator_number o AmplitudeSensitivity = o.amp_mod_sensitivity
+operator_number o VelocitySensitivity = o.velocity_sensitivity
+operator_number o OutputLevel = o.level
+operator_number o Mode = o.mode
+operator_number o Coarse = o.coarse
+operator_number o Fine = o.fine
 
-unfoldable pub lfoNumber : ModulationParameters → LfoName → ℕ
-lfoNumber m LfoRate = m.rate
-lfoNumber m LfoDelay = m.delay
-lfoNumber m PitchDepth = m.pitch_mod_depth
-lfoNumber m AmplitudeDepth = m.amp_mod_depth
-lfoNumber m LfoReset = m.reset_phase
-lfoNumber m Waveform = m.waveform
-lfoNumber m PitchSensitivity = m.pitch_mod_sensitivity
+unfoldable pub lfo_number : ModulationParameters → LfoName → ℕ
+lfo_number m LfoRate = m.rate
+lfo_number m LfoDelay = m.delay
+lfo_number m PitchDepth = m.pitch_mod_depth
+lfo_number m AmplitudeDepth = m.amp_mod_depth
+lfo_number m LfoReset = m.reset_phase
+lfo_number m Waveform = m.waveform
+lfo_number m PitchSensitivity = m.pitch_mod_sensitivity
 
 -- an operator of nothing, for a place past the end
-unfoldable pub noOperator : Operator
-noOperator = record {
+unfoldable pub no_operator : Operator
+no_operator = record {
   envelope = record { rate = []; level = [] };
-  keyboard_scaling = scalingWith (λ n. 0);
+  keyboard_scaling = scaling_with (λ n. 0);
   rate_scaling = 0;
   amp_mod_sensitivity = 0;
   velocity_sensitivity = 0;
@@ -127,16 +127,16 @@ noOperator = record {
 }
 
 -- operator k of six
-unfoldable pub operatorAt : List Operator → ℕ → Operator
-operatorAt os k = get_or os k noOperator
+unfoldable pub operator_at : List Operator → ℕ → Operator
+operator_at os k = get_or os k no_operator
 
 unfoldable pub number_of : Patch → Place → ℕ
-number_of p (Of k n) = operatorNumber (operatorAt p.op k) n
-number_of p (Pitch n) = envelopeNumber p.pitch_envelope n
+number_of p (Of k n) = operator_number (operator_at p.op k) n
+number_of p (Pitch n) = envelope_number p.pitch_envelope n
 number_of p Algorithm = p.algorithm
 number_of p Feedback = p.feedback
 number_of p Reset = p.reset_phase
-number_of p (Lfo n) = lfoNumber p.modulations n
+number_of p (Lfo n) = lfo_number p.modulations n
 number_of p Transpose = p.transpose
 number_of p (Letter i) = get_or p.name i 0
 
@@ -147,6 +147,6 @@ pub record ShapedEnvelope (e : Envelope) : Type 0 where
 
 pub record Shaped (p : Patch) : Type 0 where
   pub operators : length p.op ≡ 6
-  pub envelopes : (k : ℕ) → k < 6 → ShapedEnvelope (operatorAt p.op k).envelope
+  pub envelopes : (k : ℕ) → k < 6 → ShapedEnvelope (operator_at p.op k).envelope
   pub pitch : ShapedEnvelope p.pitch_envelope
   pub letters : length p.name ≡ 10

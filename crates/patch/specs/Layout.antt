@@ -63,140 +63,140 @@ pub data Place : Type 0 where
   Letter : ℕ → Place
 
 -- THE TABLE. Each field's limit, its largest number. A form of a patch adds only where a field stands.
-abbrev pub envelopeLimit : EnvelopeName → ℕ
-envelopeLimit (Rate i) = 99
-envelopeLimit (Level i) = 99
+abbrev pub envelope_limit : EnvelopeName → ℕ
+envelope_limit (Rate i) = 99
+envelope_limit (Level i) = 99
 
-abbrev pub scalingLimit : ScalingName → ℕ
-scalingLimit BreakPoint = 99
-scalingLimit LeftDepth = 99
-scalingLimit RightDepth = 99
-scalingLimit LeftCurve = 3
-scalingLimit RightCurve = 3
+abbrev pub scaling_limit : ScalingName → ℕ
+scaling_limit BreakPoint = 99
+scaling_limit LeftDepth = 99
+scaling_limit RightDepth = 99
+scaling_limit LeftCurve = 3
+scaling_limit RightCurve = 3
 
-abbrev pub operatorLimit : OperatorName → ℕ
-operatorLimit (Stage n) = envelopeLimit n
-operatorLimit (Scaling n) = scalingLimit n
-operatorLimit RateScaling = 7
-operatorLimit Detune = 14
-operatorLimit AmplitudeSensitivity = 3
-operatorLimit VelocitySensitivity = 7
-operatorLimit OutputLevel = 99
-operatorLimit Mode = 1
-operatorLimit Coarse = 31
-operatorLimit Fine = 99
+abbrev pub operator_limit : OperatorName → ℕ
+operator_limit (Stage n) = envelope_limit n
+operator_limit (Scaling n) = scaling_limit n
+operator_limit RateScaling = 7
+operator_limit Detune = 14
+operator_limit AmplitudeSensitivity = 3
+operator_limit VelocitySensitivity = 7
+operator_limit OutputLevel = 99
+operator_limit Mode = 1
+operator_limit Coarse = 31
+operator_limit Fine = 99
 
 -- the largest pitch sensitivity: in a patch, and where the LFO is set or the sensitivity converted
-abbrev pub patchSensitivity : ℕ
-patchSensitivity = 15
+abbrev pub patch_sensitivity : ℕ
+patch_sensitivity = 15
 
-abbrev pub lfoSensitivity : ℕ
-lfoSensitivity = 7
+abbrev pub lfo_sensitivity : ℕ
+lfo_sensitivity = 7
 
 -- the LFO, for a largest pitch sensitivity
-abbrev pub lfoLimit : ℕ → LfoName → ℕ
-lfoLimit sensitivity LfoRate = 99
-lfoLimit sensitivity LfoDelay = 99
-lfoLimit sensitivity PitchDepth = 99
-lfoLimit sensitivity AmplitudeDepth = 99
-lfoLimit sensitivity LfoReset = 1
-lfoLimit sensitivity Waveform = 5
-lfoLimit sensitivity PitchSensitivity = sensitivity
+abbrev pub lfo_limit : ℕ → LfoName → ℕ
+lfo_limit sensitivity LfoRate = 99
+lfo_limit sensitivity LfoDelay = 99
+lfo_limit sensitivity PitchDepth = 99
+lfo_limit sensitivity AmplitudeDepth = 99
+lfo_limit sensitivity LfoReset = 1
+lfo_limit sensitivity Waveform = 5
+lfo_limit sensitivity PitchSensitivity = sensitivity
 
-abbrev pub limitOf : Place → ℕ
-limitOf (Of k n) = operatorLimit n
-limitOf (Pitch n) = envelopeLimit n
-limitOf Algorithm = 31
-limitOf Feedback = 7
-limitOf Reset = 1
-limitOf (Lfo n) = lfoLimit patchSensitivity n
-limitOf Transpose = 48
-limitOf (Letter i) = 127
+abbrev pub limit_of : Place → ℕ
+limit_of (Of k n) = operator_limit n
+limit_of (Pitch n) = envelope_limit n
+limit_of Algorithm = 31
+limit_of Feedback = 7
+limit_of Reset = 1
+limit_of (Lfo n) = lfo_limit patch_sensitivity n
+limit_of Transpose = 48
+limit_of (Letter i) = 127
 
 -- THE PACKED FORM. Each field's byte, lowest bit and width, and its limit from the table.
 -- an envelope, its bytes counted from its first: rates 0–3, levels 4–7
-unfoldable pub envelopeField : EnvelopeName → Field
-envelopeField (Rate i) = row i 0 7 (envelopeLimit (Rate i))
-envelopeField (Level i) = row (4 + i) 0 7 (envelopeLimit (Level i))
+unfoldable pub envelope_field : EnvelopeName → Field
+envelope_field (Rate i) = row i 0 7 (envelope_limit (Rate i))
+envelope_field (Level i) = row (4 + i) 0 7 (envelope_limit (Level i))
 
 -- keyboard scaling, bytes counted from the operator's first
-unfoldable pub scalingField : ScalingName → Field
-scalingField BreakPoint = row 8 0 7 (scalingLimit BreakPoint)
-scalingField LeftDepth = row 9 0 7 (scalingLimit LeftDepth)
-scalingField RightDepth = row 10 0 7 (scalingLimit RightDepth)
-scalingField LeftCurve = row 11 0 2 (scalingLimit LeftCurve)
-scalingField RightCurve = row 11 2 2 (scalingLimit RightCurve)
+unfoldable pub scaling_field : ScalingName → Field
+scaling_field BreakPoint = row 8 0 7 (scaling_limit BreakPoint)
+scaling_field LeftDepth = row 9 0 7 (scaling_limit LeftDepth)
+scaling_field RightDepth = row 10 0 7 (scaling_limit RightDepth)
+scaling_field LeftCurve = row 11 0 2 (scaling_limit LeftCurve)
+scaling_field RightCurve = row 11 2 2 (scaling_limit RightCurve)
 
 -- an operator, bytes counted from its first
-unfoldable pub operatorField : OperatorName → Field
-operatorField (Stage n) = envelopeField n
-operatorField (Scaling n) = scalingField n
-operatorField RateScaling = row 12 0 3 (operatorLimit RateScaling)
-operatorField Detune = row 12 3 4 (operatorLimit Detune)
-operatorField AmplitudeSensitivity = row 13 0 2 (operatorLimit AmplitudeSensitivity)
-operatorField VelocitySensitivity = row 13 2 3 (operatorLimit VelocitySensitivity)
-operatorField OutputLevel = row 14 0 7 (operatorLimit OutputLevel)
-operatorField Mode = row 15 0 1 (operatorLimit Mode)
-operatorField Coarse = row 15 1 5 (operatorLimit Coarse)
-operatorField Fine = row 16 0 7 (operatorLimit Fine)
+unfoldable pub operator_field : OperatorName → Field
+operator_field (Stage n) = envelope_field n
+operator_field (Scaling n) = scaling_field n
+operator_field RateScaling = row 12 0 3 (operator_limit RateScaling)
+operator_field Detune = row 12 3 4 (operator_limit Detune)
+operator_field AmplitudeSensitivity = row 13 0 2 (operator_limit AmplitudeSensitivity)
+operator_field VelocitySensitivity = row 13 2 3 (operator_limit VelocitySensitivity)
+operator_field OutputLevel = row 14 0 7 (operator_limit OutputLevel)
+operator_field Mode = row 15 0 1 (operator_limit Mode)
+operator_field Coarse = row 15 1 5 (operator_limit Coarse)
+operator_field Fine = row 16 0 7 (operator_limit Fine)
 
 -- The LFO, for a largest pitch sensitivity. Yamaha's bytes stop at 127, so three bits would do; the Rust shifts byte
 -- 116 unmasked, and decides: four bits.
-unfoldable pub lfoField : ℕ → LfoName → Field
-lfoField sensitivity LfoRate = row 112 0 7 (lfoLimit sensitivity LfoRate)
-lfoField sensitivity LfoDelay = row 113 0 7 (lfoLimit sensitivity LfoDelay)
-lfoField sensitivity PitchDepth = row 114 0 7 (lfoLimit sensitivity PitchDepth)
-lfoField sensitivity AmplitudeDepth = row 115 0 7 (lfoLimit sensitivity AmplitudeDepth)
-lfoField sensitivity LfoReset = row 116 0 1 (lfoLimit sensitivity LfoReset)
-lfoField sensitivity Waveform = row 116 1 3 (lfoLimit sensitivity Waveform)
-lfoField sensitivity PitchSensitivity = row 116 4 4 (lfoLimit sensitivity PitchSensitivity)
+unfoldable pub lfo_field : ℕ → LfoName → Field
+lfo_field sensitivity LfoRate = row 112 0 7 (lfo_limit sensitivity LfoRate)
+lfo_field sensitivity LfoDelay = row 113 0 7 (lfo_limit sensitivity LfoDelay)
+lfo_field sensitivity PitchDepth = row 114 0 7 (lfo_limit sensitivity PitchDepth)
+lfo_field sensitivity AmplitudeDepth = row 115 0 7 (lfo_limit sensitivity AmplitudeDepth)
+lfo_field sensitivity LfoReset = row 116 0 1 (lfo_limit sensitivity LfoReset)
+lfo_field sensitivity Waveform = row 116 1 3 (lfo_limit sensitivity Waveform)
+lfo_field sensitivity PitchSensitivity = row 116 4 4 (lfo_limit sensitivity PitchSensitivity)
 
 -- a patch: operator k begins at byte 17 k, the pitch envelope at 102
 unfoldable pub field_of : Place → Field
-field_of (Of k n) = later (k * 17) (operatorField n)
-field_of (Pitch n) = later 102 (envelopeField n)
-field_of Algorithm = row 110 0 5 (limitOf Algorithm)
-field_of Feedback = row 111 0 3 (limitOf Feedback)
-field_of Reset = row 111 3 1 (limitOf Reset)
-field_of (Lfo n) = lfoField patchSensitivity n
-field_of Transpose = row 117 0 7 (limitOf Transpose)
-field_of (Letter i) = row (118 + i) 0 7 (limitOf (Letter i))
+field_of (Of k n) = later (k * 17) (operator_field n)
+field_of (Pitch n) = later 102 (envelope_field n)
+field_of Algorithm = row 110 0 5 (limit_of Algorithm)
+field_of Feedback = row 111 0 3 (limit_of Feedback)
+field_of Reset = row 111 3 1 (limit_of Reset)
+field_of (Lfo n) = lfo_field patch_sensitivity n
+field_of Transpose = row 117 0 7 (limit_of Transpose)
+field_of (Letter i) = row (118 + i) 0 7 (limit_of (Letter i))
 
 -- LAYOUT ORDER
 unfoldable pub stages : List ℕ
 stages = 0 ∷ 1 ∷ 2 ∷ 3 ∷ []
 
-unfoldable pub envelopeNames : List EnvelopeName
-envelopeNames = Rate 0 ∷ Rate 1 ∷ Rate 2 ∷ Rate 3 ∷ Level 0 ∷ Level 1 ∷ Level 2 ∷ Level 3 ∷ []
+unfoldable pub envelope_names : List EnvelopeName
+envelope_names = Rate 0 ∷ Rate 1 ∷ Rate 2 ∷ Rate 3 ∷ Level 0 ∷ Level 1 ∷ Level 2 ∷ Level 3 ∷ []
 
-unfoldable pub scalingNames : List ScalingName
-scalingNames = BreakPoint ∷ LeftDepth ∷ RightDepth ∷ LeftCurve ∷ RightCurve ∷ []
+unfoldable pub scaling_names : List ScalingName
+scaling_names = BreakPoint ∷ LeftDepth ∷ RightDepth ∷ LeftCurve ∷ RightCurve ∷ []
 
 -- an operator's 21 fields
-unfoldable pub operatorNames : List OperatorName
-operatorNames =
-    map Stage envelopeNames
-    ++ (map Scaling scalingNames
+unfoldable pub operator_names : List OperatorName
+operator_names =
+    map Stage envelope_names
+    ++ (map Scaling scaling_names
     ++ (RateScaling ∷ Detune ∷ AmplitudeSensitivity ∷ VelocitySensitivity ∷ OutputLevel ∷ Mode ∷ Coarse ∷ Fine ∷ []))
 
-unfoldable pub lfoNames : List LfoName
-lfoNames = LfoRate ∷ LfoDelay ∷ PitchDepth ∷ AmplitudeDepth ∷ LfoReset ∷ Waveform ∷ PitchSensitivity ∷ []
+unfoldable pub lfo_names : List LfoName
+lfo_names = LfoRate ∷ LfoDelay ∷ PitchDepth ∷ AmplitudeDepth ∷ LfoReset ∷ Waveform ∷ PitchSensitivity ∷ []
 
 unfoldable pub letters : List ℕ
 letters = 0 ∷ 1 ∷ 2 ∷ 3 ∷ 4 ∷ 5 ∷ 6 ∷ 7 ∷ 8 ∷ 9 ∷ []
 
 -- the 29 fields that the operators share
-unfoldable pub sharedNames : List Place
-sharedNames =
-    map Pitch envelopeNames
-    ++ (Algorithm ∷ Feedback ∷ Reset ∷ (map Lfo lfoNames ++ (Transpose ∷ map Letter letters)))
+unfoldable pub shared_names : List Place
+shared_names =
+    map Pitch envelope_names
+    ++ (Algorithm ∷ Feedback ∷ Reset ∷ (map Lfo lfo_names ++ (Transpose ∷ map Letter letters)))
 
 -- all 155, an operator's in a given order
-abbrev pub allFields : List OperatorName → List Place
-allFields names =
+abbrev pub all_fields : List OperatorName → List Place
+all_fields names =
     map (Of 0) names
     ++ (map (Of 1) names
-    ++ (map (Of 2) names ++ (map (Of 3) names ++ (map (Of 4) names ++ (map (Of 5) names ++ sharedNames)))))
+    ++ (map (Of 2) names ++ (map (Of 3) names ++ (map (Of 4) names ++ (map (Of 5) names ++ shared_names)))))
 
 unfoldable pub layout : List Place
-layout = allFields operatorNames
+layout = all_fields operator_names

@@ -8,45 +8,45 @@ use Rattle.patch.specs.Layout.{LfoName, LfoRate, LfoDelay, PitchDepth, Amplitude
 use Rattle.patch.specs.Layout.{PitchSensitivity, Place, Of, Pitch, Algorithm, Feedback, Reset, Lfo, Transpose}
 use Rattle.patch.specs.Layout.{Letter}
 
-unfoldable pub envelopePosition : EnvelopeName → ℕ
-envelopePosition (Rate i) = i
-envelopePosition (Level i) = 4 + i
+unfoldable pub envelope_position : EnvelopeName → ℕ
+envelope_position (Rate i) = i
+envelope_position (Level i) = 4 + i
 
-unfoldable pub scalingPosition : ScalingName → ℕ
-scalingPosition BreakPoint = 0
-scalingPosition LeftDepth = 1
-scalingPosition RightDepth = 2
-scalingPosition LeftCurve = 3
-scalingPosition RightCurve = 4
+unfoldable pub scaling_position : ScalingName → ℕ
+scaling_position BreakPoint = 0
+scaling_position LeftDepth = 1
+scaling_position RightDepth = 2
+scaling_position LeftCurve = 3
+scaling_position RightCurve = 4
 
-unfoldable pub operatorPosition : OperatorName → ℕ
-operatorPosition (Stage n) = envelopePosition n
-operatorPosition (Scaling n) = 8 + scalingPosition n
-operatorPosition RateScaling = 13
-operatorPosition Detune = 14
-operatorPosition AmplitudeSensitivity = 15
-operatorPosition VelocitySensitivity = 16
-operatorPosition OutputLevel = 17
-operatorPosition Mode = 18
-operatorPosition Coarse = 19
-operatorPosition Fine = 20
+unfoldable pub operator_position : OperatorName → ℕ
+operator_position (Stage n) = envelope_position n
+operator_position (Scaling n) = 8 + scaling_position n
+operator_position RateScaling = 13
+operator_position Detune = 14
+operator_position AmplitudeSensitivity = 15
+operator_position VelocitySensitivity = 16
+operator_position OutputLevel = 17
+operator_position Mode = 18
+operator_position Coarse = 19
+operator_position Fine = 20
 
-unfoldable pub lfoPosition : LfoName → ℕ
-lfoPosition LfoRate = 0
-lfoPosition LfoDelay = 1
-lfoPosition PitchDepth = 2
-lfoPosition AmplitudeDepth = 3
-lfoPosition LfoReset = 4
-lfoPosition Waveform = 5
-lfoPosition PitchSensitivity = 6
+unfoldable pub lfo_position : LfoName → ℕ
+lfo_position LfoRate = 0
+lfo_position LfoDelay = 1
+lfo_position PitchDepth = 2
+lfo_position AmplitudeDepth = 3
+lfo_position LfoReset = 4
+lfo_position Waveform = 5
+lfo_position PitchSensitivity = 6
 
 -- a field's position in layout order
 unfoldable pub position : Place → ℕ
-position (Of k n) = k * 21 + operatorPosition n
-position (Pitch n) = 126 + envelopePosition n
+position (Of k n) = k * 21 + operator_position n
+position (Pitch n) = 126 + envelope_position n
 position Algorithm = 134
 position Feedback = 135
 position Reset = 136
-position (Lfo n) = 137 + lfoPosition n
+position (Lfo n) = 137 + lfo_position n
 position Transpose = 144
 position (Letter i) = 145 + i

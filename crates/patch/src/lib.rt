@@ -1,10 +1,10 @@
 // A DX7 patch from its 128 packed bytes, after patch.rs. Each entry is what specs/Packed derives from the one table of
 // specs/Layout, for accepted and refused input alike. Number given back: 1 fewer than 128 bytes.
 ghost use Rattle.std.specs.Prelude.{◌≡◌, ◌+◌, ◌≤◌, ◌<◌, ◌/◌, ◌%◌, min, length, get_or};
-ghost use Rattle.patch.specs.Layout.{later, envelopeField, scalingField, operatorField, lfoField, field_of};
-ghost use Rattle.patch.specs.Layout.{patchSensitivity};
-ghost use Rattle.patch.specs.Form.{envelopeWith, scalingWith, operatorWith, modulationsWith, nameWith, zeroPatch};
-ghost use Rattle.patch.specs.Packed.{readIn, unpacked, unpackOf};
+ghost use Rattle.patch.specs.Layout.{later, envelope_field, scaling_field, operator_field, lfo_field, field_of};
+ghost use Rattle.patch.specs.Layout.{patch_sensitivity};
+ghost use Rattle.patch.specs.Form.{envelope_with, scaling_with, operator_with, modulations_with, name_with, zero_patch};
+ghost use Rattle.patch.specs.Packed.{read_in, unpacked, unpack_of};
 
 pub mod largest;
 
@@ -72,7 +72,7 @@ pub struct Unpacked {
 
 // An operator of zeros.
 fn fresh_operator() -> Operator
-    ensures { result ≡ operatorWith (λ n. 0) }
+    ensures { result ≡ operator_with (λ n. 0) }
 {
     let envelope = Envelope {
         rate: [0u8; 4],
@@ -102,7 +102,7 @@ fn fresh_operator() -> Operator
 impl Patch {
     // The patch of zeros.
     pub fn new() -> Patch
-        ensures { result ≡ zeroPatch }
+        ensures { result ≡ zero_patch }
     {
         let o = fresh_operator();
         let envelope = o.envelope;
@@ -149,7 +149,7 @@ fn whole(s: &[u8], i: usize) -> u8
 // The keyboard scaling of the operator whose first byte stands at `at`.
 fn unpack_scaling(s: &[u8], at: usize) -> KeyboardScaling
     requires { at + 17 ≤ length s.now }
-    ensures { result ≡ scalingWith (λ n. readIn s.now (later at (scalingField n))) }
+    ensures { result ≡ scaling_with (λ n. read_in s.now (later at (scaling_field n))) }
 {
     let curves = s[at + 11];
     KeyboardScaling {
@@ -165,7 +165,7 @@ fn unpack_scaling(s: &[u8], at: usize) -> KeyboardScaling
 // handed on as a value would be put together in a register, bit by bit, where eight bytes can be clamped as one.
 fn unpack_stages(s: &[u8], at: usize) -> Operator
     requires { at + 8 ≤ length s.now }
-    ensures { result.envelope ≡ envelopeWith (λ n. readIn s.now (later at (envelopeField n))) }
+    ensures { result.envelope ≡ envelope_with (λ n. read_in s.now (later at (envelope_field n))) }
 {
     let mut o = fresh_operator();
     let mut e = o.envelope;
@@ -184,7 +184,7 @@ fn unpack_stages(s: &[u8], at: usize) -> Operator
 // The operator whose first byte stands at `at`.
 fn unpack_operator(s: &[u8], at: usize) -> Operator
     requires { at + 17 ≤ length s.now }
-    ensures { result ≡ operatorWith (λ n. readIn s.now (later at (operatorField n))) }
+    ensures { result ≡ operator_with (λ n. read_in s.now (later at (operator_field n))) }
 {
     let rates = s[at + 12];
     let sensitivities = s[at + 13];
@@ -207,7 +207,7 @@ fn unpack_operator(s: &[u8], at: usize) -> Operator
 // the Rust: a byte above 127, which Yamaha does not write, gives 8 to 15. A patch may hold these; an LFO refuses them.
 fn unpack_modulations(s: &[u8]) -> ModulationParameters
     requires { 128 ≤ length s.now }
-    ensures { result ≡ modulationsWith (λ n. readIn s.now (lfoField patchSensitivity n)) }
+    ensures { result ≡ modulations_with (λ n. read_in s.now (lfo_field patch_sensitivity n)) }
 {
     let shape = s[116];
     ModulationParameters {
@@ -231,7 +231,7 @@ fn letter(s: &[u8], i: usize) -> u8
 
 fn unpack_name(s: &[u8]) -> [u8; 10]
     requires { 128 ≤ length s.now }
-    ensures { result ≡ nameWith (λ n. readIn s.now (field_of n)) }
+    ensures { result ≡ name_with (λ n. read_in s.now (field_of n)) }
 {
     [
         letter(s, 118),
@@ -285,7 +285,7 @@ fn unpack_whole(s: &[u8]) -> Patch
 
 // The patch in the first 128 bytes; 1 and the patch as it was for fewer.
 pub fn unpack(patch: Patch, data: &[u8]) -> Unpacked
-    ensures { result ≡ unpackOf patch «data».now }
+    ensures { result ≡ unpack_of patch «data».now }
 {
     if data.len() < SYX_SIZE {
         return Unpacked { number: 1, patch };

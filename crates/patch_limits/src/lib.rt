@@ -2,9 +2,9 @@
 // functions is what `patch`'s specs/Packed derives from the one table of its specs/Layout. Number given back: 6 a field
 // above its largest number. And the ranges of floats.
 ghost use Rattle.std.specs.Prelude.{◌≡◌};
-ghost use Rattle.patch_limits.specs.Ranges.{between, sampleRateFits, noteFits, unitFits};
-ghost use Rattle.patch.specs.Packed.{stagesFit, scalingFits, operatorFits, operatorsFit, modulationsFit};
-ghost use Rattle.patch.specs.Packed.{nameFits, patchFits, checkOf};
+ghost use Rattle.patch_limits.specs.Ranges.{between, sample_rate_fits, note_fits, unit_fits};
+ghost use Rattle.patch.specs.Packed.{stages_fit, scaling_fits, operator_fits, operators_fit, modulations_fit};
+ghost use Rattle.patch.specs.Packed.{name_fits, patch_fits, check_of};
 
 use patch::{KeyboardScaling, ModulationParameters, Operator, Patch, largest};
 
@@ -12,7 +12,7 @@ use patch::{KeyboardScaling, ModulationParameters, Operator, Patch, largest};
 // is handed over as a value comes in a register, to be taken apart bit by bit, where sixteen bytes can be tested as
 // one.
 pub fn stages_fit(x: &[u8; 4]) -> bool
-    ensures { result ≡ stagesFit x.now }
+    ensures { result ≡ stages_fit x.now }
 {
     (x[0] <= largest::WHOLE)
         & (x[1] <= largest::WHOLE)
@@ -22,7 +22,7 @@ pub fn stages_fit(x: &[u8; 4]) -> bool
 
 // Whether each number of a struct is at most its field's largest.
 pub fn scaling_fits(k: KeyboardScaling) -> bool
-    ensures { result ≡ scalingFits k }
+    ensures { result ≡ scaling_fits k }
 {
     (k.break_point <= largest::WHOLE)
         & (k.left_depth <= largest::WHOLE)
@@ -32,7 +32,7 @@ pub fn scaling_fits(k: KeyboardScaling) -> bool
 }
 
 pub fn operator_fits(o: Operator) -> bool
-    ensures { result ≡ operatorFits o }
+    ensures { result ≡ operator_fits o }
 {
     let keyboard_scaling = o.keyboard_scaling;
     stages_fit(&o.envelope.rate)
@@ -50,7 +50,7 @@ pub fn operator_fits(o: Operator) -> bool
 
 // The pitch sensitivity's limit is the caller's: a patch has another than an LFO that is set.
 pub fn modulations_fit(m: ModulationParameters, limit: u8) -> bool
-    ensures { result ≡ modulationsFit m limit }
+    ensures { result ≡ modulations_fit m limit }
 {
     (m.rate <= largest::WHOLE)
         & (m.delay <= largest::WHOLE)
@@ -62,7 +62,7 @@ pub fn modulations_fit(m: ModulationParameters, limit: u8) -> bool
 }
 
 fn name_fits(name: &[u8; 10]) -> bool
-    ensures { result ≡ nameFits name.now }
+    ensures { result ≡ name_fits name.now }
 {
     (name[0] <= largest::LETTER)
         & (name[1] <= largest::LETTER)
@@ -77,7 +77,7 @@ fn name_fits(name: &[u8; 10]) -> bool
 }
 
 fn operators_fit(op: [Operator; 6]) -> bool
-    ensures { result ≡ operatorsFit op }
+    ensures { result ≡ operators_fit op }
 {
     operator_fits(op[0])
         & operator_fits(op[1])
@@ -88,7 +88,7 @@ fn operators_fit(op: [Operator; 6]) -> bool
 }
 
 pub fn patch_fits(p: Patch) -> bool
-    ensures { result ≡ patchFits p }
+    ensures { result ≡ patch_fits p }
 {
     let op = p.op;
     let modulations = p.modulations;
@@ -106,7 +106,7 @@ pub fn patch_fits(p: Patch) -> bool
 
 // 6 for a field above its largest number or active operators other than 63.
 pub fn check(p: Patch) -> u8
-    ensures { result ≡ checkOf p }
+    ensures { result ≡ check_of p }
 {
     if patch_fits(p) { 0 } else { 6 }
 }
@@ -120,21 +120,21 @@ pub fn between(low: f32, high: f32, x: f32) -> bool
 
 // Number 5.
 pub fn sample_rate_fits(rate: f32) -> bool
-    ensures { result ≡ sampleRateFits rate }
+    ensures { result ≡ sample_rate_fits rate }
 {
     between(8000.0, 192000.0, rate)
 }
 
 // Number 7: a note.
 pub fn note_fits(note: f32) -> bool
-    ensures { result ≡ noteFits note }
+    ensures { result ≡ note_fits note }
 {
     between(0.0, 127.0, note)
 }
 
 // Number 7: a velocity, a brightness, an envelope control or an amplitude modulation.
 pub fn unit_fits(x: f32) -> bool
-    ensures { result ≡ unitFits x }
+    ensures { result ≡ unit_fits x }
 {
     between(0.0, 1.0, x)
 }

@@ -1,15 +1,15 @@
 // A patch as its 155 numbers in layout order, and back, for other forms of a patch and for differences. Added by us: no
 // Rust file. Each entry is what specs/Numbers says, over the order of `patch`'s specs/Layout. Nothing is refused.
 ghost use Rattle.std.specs.Prelude.{◌≡◌, ◌+◌, ◌≤◌, length, get_or};
-ghost use Rattle.patch.specs.Form.{envelopeWith, scalingWith, operatorWith, modulationsWith, nameWith};
-ghost use Rattle.patch.specs.Positions.{envelopePosition, scalingPosition, operatorPosition, lfoPosition, position};
-ghost use Rattle.patch_numbers.specs.Numbers.{numbersOf, patch_of, operatorNumbers, sharedNumbers};
+ghost use Rattle.patch.specs.Form.{envelope_with, scaling_with, operator_with, modulations_with, name_with};
+ghost use Rattle.patch.specs.Positions.{envelope_position, scaling_position, operator_position, lfo_position, position};
+ghost use Rattle.patch_numbers.specs.Numbers.{numbers_of, patch_of, operator_numbers, shared_numbers};
 
 use patch::{Envelope, KeyboardScaling, ModulationParameters, Operator, Patch};
 
 // An operator's 21 numbers.
 fn operator_numbers(o: Operator) -> [u8; 21]
-    ensures { result ≡ operatorNumbers o }
+    ensures { result ≡ operator_numbers o }
 {
     let e = o.envelope;
     let rate = e.rate;
@@ -45,7 +45,7 @@ fn operator_numbers(o: Operator) -> [u8; 21]
 
 // The 29 numbers behind the operators'.
 fn shared_numbers(p: Patch) -> [u8; 29]
-    ensures { result ≡ sharedNumbers p }
+    ensures { result ≡ shared_numbers p }
 {
     let e = p.pitch_envelope;
     let rate = e.rate;
@@ -90,7 +90,7 @@ fn shared_numbers(p: Patch) -> [u8; 29]
 
 // A patch's numbers.
 pub fn numbers(patch: Patch) -> [u8; 155]
-    ensures { result ≡ numbersOf patch }
+    ensures { result ≡ numbers_of patch }
 {
     let op = patch.op;
     let mut out = [0u8; 155];
@@ -108,7 +108,7 @@ pub fn numbers(patch: Patch) -> [u8; 155]
 // The envelope whose first number stands at `at`.
 fn envelope_of(s: &[u8], at: usize) -> Envelope
     requires { at + 8 ≤ length s.now }
-    ensures { result ≡ envelopeWith (λ n. get_or s.now (at + envelopePosition n) 0) }
+    ensures { result ≡ envelope_with (λ n. get_or s.now (at + envelope_position n) 0) }
 {
     let rate = [s[at], s[at + 1], s[at + 2], s[at + 3]];
     let level = [s[at + 4], s[at + 5], s[at + 6], s[at + 7]];
@@ -118,7 +118,7 @@ fn envelope_of(s: &[u8], at: usize) -> Envelope
 // The keyboard scaling of the operator whose first number stands at `at`.
 fn scaling_of(s: &[u8], at: usize) -> KeyboardScaling
     requires { at + 21 ≤ length s.now }
-    ensures { result ≡ scalingWith (λ n. get_or s.now (at + (8 + scalingPosition n)) 0) }
+    ensures { result ≡ scaling_with (λ n. get_or s.now (at + (8 + scaling_position n)) 0) }
 {
     KeyboardScaling {
         left_depth: s[at + 9],
@@ -132,7 +132,7 @@ fn scaling_of(s: &[u8], at: usize) -> KeyboardScaling
 // The operator whose first number stands at `at`.
 fn operator_of(s: &[u8], at: usize) -> Operator
     requires { at + 21 ≤ length s.now }
-    ensures { result ≡ operatorWith (λ n. get_or s.now (at + operatorPosition n) 0) }
+    ensures { result ≡ operator_with (λ n. get_or s.now (at + operator_position n) 0) }
 {
     let envelope = envelope_of(s, at);
     let keyboard_scaling = scaling_of(s, at);
@@ -166,7 +166,7 @@ fn operators_of(s: &[u8]) -> [Operator; 6]
 
 fn modulations_of(s: &[u8]) -> ModulationParameters
     requires { length s.now ≡ 155 }
-    ensures { result ≡ modulationsWith (λ n. get_or s.now (137 + lfoPosition n) 0) }
+    ensures { result ≡ modulations_with (λ n. get_or s.now (137 + lfo_position n) 0) }
 {
     ModulationParameters {
         delay: s[138],
@@ -181,7 +181,7 @@ fn modulations_of(s: &[u8]) -> ModulationParameters
 
 fn name_of(s: &[u8]) -> [u8; 10]
     requires { length s.now ≡ 155 }
-    ensures { result ≡ nameWith (λ n. get_or s.now (position n) 0) }
+    ensures { result ≡ name_with (λ n. get_or s.now (position n) 0) }
 {
     [
         s[145], s[146], s[147], s[148], s[149], s[150], s[151], s[152], s[153], s[154],

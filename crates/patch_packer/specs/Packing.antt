@@ -4,9 +4,9 @@ use Rattle.std.specs.Prelude.{◌≡◌, true, cond, List, [], ◌∷◌, ℕ, z
 use Rattle.patch.specs.declared.Operator.{Operator}
 use Rattle.patch.specs.declared.Patch.{Patch}
 use Rattle.patch_packer.specs.declared.Packed.{Packed}
-use Rattle.patch.specs.Layout.{Field, operatorField, field_of, operatorNames, sharedNames, layout}
-use Rattle.patch.specs.Form.{operatorNumber, number_of}
-use Rattle.patch.specs.Packed.{bitsIn, within, patchFits}
+use Rattle.patch.specs.Layout.{Field, operator_field, field_of, operator_names, shared_names, layout}
+use Rattle.patch.specs.Form.{operator_number, number_of}
+use Rattle.patch.specs.Packed.{bits_in, within, patch_fits}
 
 -- a number at its field's bits
 unfoldable pub placed : Field → ℕ → ℕ
@@ -29,18 +29,18 @@ unfoldable pub packed : Patch → List ℕ
 packed p = bytes_of field_of (number_of p) layout 0 128
 
 -- the parts that the code writes: an operator's 17 bytes, and the 26 behind the operators
-unfoldable pub operatorBytes : Operator → List ℕ
-operatorBytes o = bytes_of operatorField (operatorNumber o) operatorNames 0 17
+unfoldable pub operator_bytes : Operator → List ℕ
+operator_bytes o = bytes_of operator_field (operator_number o) operator_names 0 17
 
-unfoldable pub sharedBytes : Patch → List ℕ
-sharedBytes p = bytes_of field_of (number_of p) sharedNames 102 26
+unfoldable pub shared_bytes : Patch → List ℕ
+shared_bytes p = bytes_of field_of (number_of p) shared_names 102 26
 
 -- 6 and 128 zeros for a patch that does not fit, else its bytes
-unfoldable pub packOf : Patch → Packed
-packOf p = cond (patchFits p) (record { number = 0; bytes = packed p }) (record { number = 6; bytes = replicate 128 0 })
+unfoldable pub pack_of : Patch → Packed
+pack_of p = cond (patch_fits p) (record { number = 0; bytes = packed p }) (record { number = 6; bytes = replicate 128 0 })
 
 -- bytes that a packer can have written: already clamped, every field's bits at most its largest number; and free of
 -- unused bits, each of the 128 the sum of its fields' bits and nothing else
 pub record Clean (s : List ℕ) : Type 0 where
-  pub clamped : within field_of (λ n. bitsIn s (field_of n)) layout ≡ true
-  pub unused : (k : ℕ) → k < 128 → get_or s k 0 ≡ byte_of field_of (λ n. bitsIn s (field_of n)) layout k
+  pub clamped : within field_of (λ n. bits_in s (field_of n)) layout ≡ true
+  pub unused : (k : ℕ) → k < 128 → get_or s k 0 ≡ byte_of field_of (λ n. bits_in s (field_of n)) layout k

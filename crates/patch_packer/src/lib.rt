@@ -3,8 +3,8 @@
 // `patch_limits::check` refuses.
 ghost use Rattle.std.specs.Prelude.{◌≡◌, true, ◌≤◌};
 ghost use Rattle.std.proofs.Math.Seq.{paste};
-ghost use Rattle.patch.specs.Packed.{operatorFits, patchFits};
-ghost use Rattle.patch_packer.specs.Packing.{operatorBytes, sharedBytes, packed, packOf};
+ghost use Rattle.patch.specs.Packed.{operator_fits, patch_fits};
+ghost use Rattle.patch_packer.specs.Packing.{operator_bytes, shared_bytes, packed, pack_of};
 
 use patch::{Operator, Patch};
 
@@ -18,8 +18,8 @@ pub struct Packed {
 // The 17 bytes of an operator that fits, as a table in layout order: its numbers as they are, each lies within its
 // field's bits.
 fn operator_bytes(o: Operator) -> [u8; 17]
-    requires { operatorFits o ≡ true }
-    ensures { result ≡ operatorBytes o }
+    requires { operator_fits o ≡ true }
+    ensures { result ≡ operator_bytes o }
 {
     let e = o.envelope;
     let rate = e.rate;
@@ -50,8 +50,8 @@ fn operator_bytes(o: Operator) -> [u8; 17]
 
 // The 26 bytes behind the operators, of a patch that fits, as such a table.
 fn shared_bytes(p: Patch) -> [u8; 26]
-    requires { patchFits p ≡ true }
-    ensures { result ≡ sharedBytes p }
+    requires { patch_fits p ≡ true }
+    ensures { result ≡ shared_bytes p }
 {
     let e = p.pitch_envelope;
     let rate = e.rate;
@@ -92,23 +92,23 @@ fn shared_bytes(p: Patch) -> [u8; 26]
 }
 
 fn put_operator(out: &mut [u8; 128], at: usize, o: Operator)
-    requires { (at ≤ 111) × (operatorFits o ≡ true) }
-    ensures { out.new ≡ paste out.old at (operatorBytes o) 17 }
+    requires { (at ≤ 111) × (operator_fits o ≡ true) }
+    ensures { out.new ≡ paste out.old at (operator_bytes o) 17 }
 {
     let b = operator_bytes(o);
     lent_bytes::put(out, at, &b);
 }
 
 fn put_shared(out: &mut [u8; 128], p: Patch)
-    requires { patchFits p ≡ true }
-    ensures { out.new ≡ paste out.old 102 (sharedBytes p) 26 }
+    requires { patch_fits p ≡ true }
+    ensures { out.new ≡ paste out.old 102 (shared_bytes p) 26 }
 {
     let b = shared_bytes(p);
     lent_bytes::put(out, 102, &b);
 }
 
 fn pack_whole(p: Patch) -> [u8; 128]
-    requires { patchFits p ≡ true }
+    requires { patch_fits p ≡ true }
     ensures { result ≡ packed p }
 {
     let op = p.op;
@@ -124,7 +124,7 @@ fn pack_whole(p: Patch) -> [u8; 128]
 
 // The 128 bytes of a patch, unused bits clear; 6 and zeros for a patch that does not fit. What fits needs no masks.
 pub fn pack(patch: Patch) -> Packed
-    ensures { result ≡ packOf patch }
+    ensures { result ≡ pack_of patch }
 {
     if patch_limits::patch_fits(patch) {
         let bytes = pack_whole(patch);

@@ -12,93 +12,93 @@ pub record Written (before : List ℕ) (at : ℕ) (piece : List ℕ) (after : Li
   pub buffer : after ≡ sets before at piece
 
 -- row
-abbrev pub wordRow : List ℕ
-wordRow = 114 ∷ 111 ∷ 119 ∷ []
+abbrev pub word_row : List ℕ
+word_row = 114 ∷ 111 ∷ 119 ∷ []
 
 -- calls, and a space
-abbrev pub wordCalls : List ℕ
-wordCalls = 99 ∷ 97 ∷ 108 ∷ 108 ∷ 115 ∷ 32 ∷ []
+abbrev pub word_calls : List ℕ
+word_calls = 99 ∷ 97 ∷ 108 ∷ 108 ∷ 115 ∷ 32 ∷ []
 
 -- refused, and a space
-abbrev pub wordRefused : List ℕ
-wordRefused = 114 ∷ 101 ∷ 102 ∷ 117 ∷ 115 ∷ 101 ∷ 100 ∷ 32 ∷ []
+abbrev pub word_refused : List ℕ
+word_refused = 114 ∷ 101 ∷ 102 ∷ 117 ∷ 115 ∷ 101 ∷ 100 ∷ 32 ∷ []
 
 -- at, between spaces
 abbrev pub word_at : List ℕ
 word_at = 32 ∷ 97 ∷ 116 ∷ 32 ∷ []
 
 -- none, and a space
-abbrev pub wordNone : List ℕ
-wordNone = 110 ∷ 111 ∷ 110 ∷ 101 ∷ 32 ∷ []
+abbrev pub word_none : List ℕ
+word_none = 110 ∷ 111 ∷ 110 ∷ 101 ∷ 32 ∷ []
 
 -- external, and a space
-abbrev pub wordExternal : List ℕ
-wordExternal = 101 ∷ 120 ∷ 116 ∷ 101 ∷ 114 ∷ 110 ∷ 97 ∷ 108 ∷ 32 ∷ []
+abbrev pub word_external : List ℕ
+word_external = 101 ∷ 120 ∷ 116 ∷ 101 ∷ 114 ∷ 110 ∷ 97 ∷ 108 ∷ 32 ∷ []
 
 -- feedback, and a space
-abbrev pub wordFeedback : List ℕ
-wordFeedback = 102 ∷ 101 ∷ 101 ∷ 100 ∷ 98 ∷ 97 ∷ 99 ∷ 107 ∷ 32 ∷ []
+abbrev pub word_feedback : List ℕ
+word_feedback = 102 ∷ 101 ∷ 101 ∷ 100 ∷ 98 ∷ 97 ∷ 99 ∷ 107 ∷ 32 ∷ []
 
 -- set, and the end of the line
 abbrev pub word_set : List ℕ
 word_set = 115 ∷ 101 ∷ 116 ∷ 10 ∷ []
 
 -- add, and the end of the line
-abbrev pub wordAdd : List ℕ
-wordAdd = 97 ∷ 100 ∷ 100 ∷ 10 ∷ []
+abbrev pub word_add : List ℕ
+word_add = 97 ∷ 100 ∷ 100 ∷ 10 ∷ []
 
 -- a number of one digit
 unfoldable pub digit : ℕ → ℕ
 digit d = 48 + d % 10
 
 -- a digit of a byte, lower-case
-unfoldable pub hexDigit : ℕ → ℕ
-hexDigit d = cond (ltb (d % 16) 10) (48 + d % 16) (87 + d % 16)
+unfoldable pub hex_digit : ℕ → ℕ
+hex_digit d = cond (ltb (d % 16) 10) (48 + d % 16) (87 + d % 16)
 
 -- each byte in hex, behind a space
-unfoldable pub bytesText : List ℕ → List ℕ
-bytesText [] = []
-bytesText (b ∷ bs) = 32 ∷ hexDigit (b / 16) ∷ hexDigit b ∷ bytesText bs
+unfoldable pub bytes_text : List ℕ → List ℕ
+bytes_text [] = []
+bytes_text (b ∷ bs) = 32 ∷ hex_digit (b / 16) ∷ hex_digit b ∷ bytes_text bs
 
 -- the line of the row
-unfoldable pub rowText : List ℕ → List ℕ
-rowText bytes = wordRow ++ (bytesText bytes ++ (10 ∷ []))
+unfoldable pub row_text : List ℕ → List ℕ
+row_text bytes = word_row ++ (bytes_text bytes ++ (10 ∷ []))
 
 -- the line that counts the calls
-unfoldable pub countText : ℕ → List ℕ
-countText n = wordCalls ++ (digit n ∷ 10 ∷ [])
+unfoldable pub count_text : ℕ → List ℕ
+count_text n = word_calls ++ (digit n ∷ 10 ∷ [])
 
 -- what a call's input is: 0 none, 3 feedback, else external
-unfoldable pub sourceText : ℕ → List ℕ
-sourceText input = cond (eqb input 0) wordNone (cond (eqb input 3) wordFeedback wordExternal)
+unfoldable pub source_text : ℕ → List ℕ
+source_text input = cond (eqb input 0) word_none (cond (eqb input 3) word_feedback word_external)
 
-unfoldable pub wayText : Bool → List ℕ
-wayText add = cond add wordAdd word_set
+unfoldable pub way_text : Bool → List ℕ
+way_text add = cond add word_add word_set
 
 -- a call's line: first operator, length, source, input, output, way
-unfoldable pub callText : Call → List ℕ
-callText c =
+unfoldable pub call_text : Call → List ℕ
+call_text c =
     (digit c.first ∷ 32 ∷ digit c.n ∷ 32 ∷ [])
-    ++ (sourceText c.input ++ ((digit c.input ∷ 32 ∷ digit c.output ∷ 32 ∷ []) ++ wayText c.add))
+    ++ (source_text c.input ++ ((digit c.input ∷ 32 ∷ digit c.output ∷ 32 ∷ []) ++ way_text c.add))
 
-unfoldable pub callsText : List Call → List ℕ
-callsText [] = []
-callsText (c ∷ cs) = callText c ++ callsText cs
+unfoldable pub calls_text : List Call → List ℕ
+calls_text [] = []
+calls_text (c ∷ cs) = call_text c ++ calls_text cs
 
 -- a refusal's line; 2 names no operator
-unfoldable pub atText : ℕ → ℕ → List ℕ
-atText number at = cond (eqb number 2) (10 ∷ []) (word_at ++ (digit at ∷ 10 ∷ []))
+unfoldable pub at_text : ℕ → ℕ → List ℕ
+at_text number at = cond (eqb number 2) (10 ∷ []) (word_at ++ (digit at ∷ 10 ∷ []))
 
-unfoldable pub refusalText : ℕ → ℕ → List ℕ
-refusalText number at = wordRefused ++ (digit number ∷ atText number at)
+unfoldable pub refusal_text : ℕ → ℕ → List ℕ
+refusal_text number at = word_refused ++ (digit number ∷ at_text number at)
 
 -- the whole text for what was compiled of the bytes
-unfoldable pub plannedText : List ℕ → Planned → List ℕ
-plannedText bytes p =
+unfoldable pub planned_text : List ℕ → Planned → List ℕ
+planned_text bytes p =
     cond (eqb p.number 0)
-    (rowText bytes ++ (countText p.plan.count ++ callsText (take p.plan.count p.plan.calls)))
-    (refusalText p.number p.at)
+    (row_text bytes ++ (count_text p.plan.count ++ calls_text (take p.plan.count p.plan.calls)))
+    (refusal_text p.number p.at)
 
 -- the whole text for a raw row; every length but 4 and 6 is refused with 2
-unfoldable pub planText : List ℕ → List ℕ
-planText bytes = plannedText bytes (planned (length bytes) (six bytes))
+unfoldable pub plan_text : List ℕ → List ℕ
+plan_text bytes = planned_text bytes (planned (length bytes) (six bytes))

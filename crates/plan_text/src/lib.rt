@@ -1,8 +1,8 @@
 // The plan printer (added to what the Rust has): the text for one raw row, as bytes at the start of a lent buffer. It
 // promises the definition's text, and that what stood behind it stays.
 ghost use Rattle.std.specs.Prelude.{◌≡◌, [], ◌∷◌, ◌+◌, ◌*◌, ◌≤◌, ◌<◌, length, take};
-ghost use Rattle.plan_text.specs.Text.{Written, digit, hexDigit, bytesText, rowText, countText, sourceText};
-ghost use Rattle.plan_text.specs.Text.{wayText, callText, callsText, atText, refusalText, planText};
+ghost use Rattle.plan_text.specs.Text.{Written, digit, hex_digit, bytes_text, row_text, count_text, source_text};
+ghost use Rattle.plan_text.specs.Text.{way_text, call_text, calls_text, at_text, refusal_text, plan_text};
 
 use algorithms::{Call, Plan};
 
@@ -13,7 +13,7 @@ fn digit_of(d: u8) -> u8
 }
 
 fn hex_digit(d: u8) -> u8
-    ensures { result ≡ hexDigit d }
+    ensures { result ≡ hex_digit d }
 {
     let x = d % 16;
     if x < 10 {
@@ -37,7 +37,7 @@ fn put(out: &mut [u8; 160], at: usize, piece: &[u8]) -> usize
 
 fn put_bytes(out: &mut [u8; 160], at: usize, bytes: &[u8]) -> usize
     requires { at + 3 * length bytes.now ≤ 160 }
-    ensures { Written out.old at (bytesText bytes.now) out.new result }
+    ensures { Written out.old at (bytes_text bytes.now) out.new result }
 {
     let mut place = at;
     let mut k = 0usize;
@@ -52,7 +52,7 @@ fn put_bytes(out: &mut [u8; 160], at: usize, bytes: &[u8]) -> usize
 
 fn put_row(out: &mut [u8; 160], bytes: &[u8]) -> usize
     requires { length bytes.now ≤ 6 }
-    ensures { Written out.old 0 (rowText bytes.now) out.new result }
+    ensures { Written out.old 0 (row_text bytes.now) out.new result }
 {
     let a = put(out, 0, b"row");
     let b = put_bytes(out, a, bytes);
@@ -61,7 +61,7 @@ fn put_row(out: &mut [u8; 160], bytes: &[u8]) -> usize
 
 fn put_count(out: &mut [u8; 160], at: usize, n: u8) -> usize
     requires { at + 8 ≤ 160 }
-    ensures { Written out.old at (countText n) out.new result }
+    ensures { Written out.old at (count_text n) out.new result }
 {
     let a = put(out, at, b"calls ");
     let d = digit_of(n);
@@ -70,7 +70,7 @@ fn put_count(out: &mut [u8; 160], at: usize, n: u8) -> usize
 
 fn put_source(out: &mut [u8; 160], at: usize, input: u8) -> usize
     requires { at + 9 ≤ 160 }
-    ensures { Written out.old at (sourceText input) out.new result }
+    ensures { Written out.old at (source_text input) out.new result }
 {
     if input == 0 {
         return put(out, at, b"none ");
@@ -83,7 +83,7 @@ fn put_source(out: &mut [u8; 160], at: usize, input: u8) -> usize
 
 fn put_way(out: &mut [u8; 160], at: usize, add: bool) -> usize
     requires { at + 4 ≤ 160 }
-    ensures { Written out.old at (wayText add) out.new result }
+    ensures { Written out.old at (way_text add) out.new result }
 {
     if add {
         return put(out, at, b"add\n");
@@ -103,7 +103,7 @@ fn put_numbers(out: &mut [u8; 160], at: usize, a: u8, b: u8) -> usize
 
 fn put_call(out: &mut [u8; 160], at: usize, c: Call) -> usize
     requires { at + 21 ≤ 160 }
-    ensures { Written out.old at (callText c) out.new result }
+    ensures { Written out.old at (call_text c) out.new result }
 {
     let a = put_numbers(out, at, c.first, c.n);
     let b = put_source(out, a, c.input);
@@ -113,7 +113,7 @@ fn put_call(out: &mut [u8; 160], at: usize, c: Call) -> usize
 
 fn put_calls(out: &mut [u8; 160], at: usize, plan: Plan) -> usize
     requires { (at ≤ 30) × (plan.count ≤ 6) }
-    ensures { Written out.old at (callsText (take plan.count plan.calls))
+    ensures { Written out.old at (calls_text (take plan.count plan.calls))
         out.new result }
 {
     let count = plan.count as usize;
@@ -129,7 +129,7 @@ fn put_calls(out: &mut [u8; 160], at: usize, plan: Plan) -> usize
 
 fn put_at(out: &mut [u8; 160], at: usize, number: u8, operator: u8) -> usize
     requires { at + 6 ≤ 160 }
-    ensures { Written out.old at (atText number operator) out.new result }
+    ensures { Written out.old at (at_text number operator) out.new result }
 {
     if number == 2 {
         return put(out, at, b"\n");
@@ -140,7 +140,7 @@ fn put_at(out: &mut [u8; 160], at: usize, number: u8, operator: u8) -> usize
 }
 
 fn put_refusal(out: &mut [u8; 160], number: u8, operator: u8) -> usize
-    ensures { Written out.old 0 (refusalText number operator) out.new result }
+    ensures { Written out.old 0 (refusal_text number operator) out.new result }
 {
     let a = put(out, 0, b"refused ");
     let d = digit_of(number);
@@ -151,7 +151,7 @@ fn put_refusal(out: &mut [u8; 160], number: u8, operator: u8) -> usize
 // The text for one raw row: the row, its number of calls and a line for each; or the line of its refusal. The answer is
 // the text's length.
 pub fn print(bytes: &[u8], out: &mut [u8; 160]) -> usize
-    ensures { Written out.old 0 (planText bytes.now) out.new result }
+    ensures { Written out.old 0 (plan_text bytes.now) out.new result }
 {
     let row = algorithms::six_bytes(bytes);
     let p = algorithms::compile_row(bytes.len(), row);

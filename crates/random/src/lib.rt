@@ -1,7 +1,7 @@
 // The pseudo random number generator. It follows utils/random.rs, whose hidden number is passed in
 // here and handed back. Each function has an answer for every number, and its promise names it.
 ghost use Rattle.std.specs.Prelude.{◌≡◌};
-ghost use Rattle.random.specs.Random.{nextNumber, draw};
+ghost use Rattle.random.specs.Random.{next_number, draw};
 
 // A draw, and the generator's number after it.
 #[derive(Drop)]
@@ -12,7 +12,7 @@ pub struct Drawn {
 
 // The generator's next number.
 pub fn get_word(state: u32) -> u32
-    ensures { result ≡ nextNumber state }
+    ensures { result ≡ next_number state }
 {
     numbers::wrapping_add_u32(numbers::wrapping_mul_u32(state, 1664525), 1013904223)
 }

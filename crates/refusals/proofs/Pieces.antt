@@ -17,28 +17,28 @@ use Rattle.refusals.specs.Table.{Put, sentence, row}
 -- ---- a sentence, byte by byte
 
 module _ (l : List ℕ) (k : ℕ) (h : k < length l) where
-  pub sentence-stops : get_or l k 0 ≡ 46 → sentence (drop k l) ≡ []
+  pub sentence_stops : get_or l k 0 ≡ 46 → sentence (drop k l) ≡ []
   unfolding sentence
-  sentence-stops e = rw (drop-cons l k 0 h, eq-eqb (get_or l k 0) 46 e)
+  sentence_stops e = rw (drop-cons l k 0 h, eq-eqb (get_or l k 0) 46 e)
 
-  sentence-goes : (get_or l k 0 ≡ 46 → ⊥) → sentence (drop k l) ≡ get_or l k 0 ∷ sentence (drop (k + 1) l)
+  sentence_goes : (get_or l k 0 ≡ 46 → ⊥) → sentence (drop k l) ≡ get_or l k 0 ∷ sentence (drop (k + 1) l)
   unfolding sentence
-  sentence-goes e = rw (add-one, drop-cons l k 0 h, ne_eqb (get_or l k 0) 46 e)
+  sentence_goes e = rw (add-one, drop-cons l k 0 h, ne_eqb (get_or l k 0) 46 e)
 
   -- what is still to come is written behind what was, and is as long
-  pub put-more : (out : List ℕ) (at : ℕ) → (get_or l k 0 ≡ 46 → ⊥)
+  pub put_more : (out : List ℕ) (at : ℕ) → (get_or l k 0 ≡ 46 → ⊥)
       → sets out (at + k) (sentence (drop k l))
       ≡ sets (set out (at + k) (get_or l k 0)) (at + (k + 1)) (sentence (drop (k + 1) l))
-  put-more out at e =
+  put_more out at e =
       let s : at + (k + 1) ≡ suc (at + k) = omega arith in
-      rw (sentence-goes e, s)
+      rw (sentence_goes e, s)
 
   pub longer : (get_or l k 0 ≡ 46 → ⊥) → length (sentence (drop k l)) ≡ 1 + length (sentence (drop (k + 1) l))
-  longer e = rw (sentence-goes e) (omega arith)
+  longer e = rw (sentence_goes e) (omega arith)
 
-pub sentence-ends : (l : List ℕ) → sentence (drop (length l) l) ≡ []
+pub sentence_ends : (l : List ℕ) → sentence (drop (length l) l) ≡ []
 unfolding sentence
-sentence-ends l = rw drop-length
+sentence_ends l = rw drop-length
 
 -- nothing is left to come: the whole was put
 pub put_whole : (out₀ out whole rest : List ℕ) (at k : ℕ) → rest ≡ []
@@ -50,49 +50,49 @@ put_whole out₀ out whole rest at k e b n = record {
 
 -- ---- pieces one after the other
 
-sets-append : (xs ys l : List ℕ) (i : ℕ) → sets (sets l i xs) (i + length xs) ys ≡ sets l i (xs ++ ys)
-sets-append [] ys l i = rw add-zero
-sets-append (x ∷ xs) ys l i =
+sets_append : (xs ys l : List ℕ) (i : ℕ) → sets (sets l i xs) (i + length xs) ys ≡ sets l i (xs ++ ys)
+sets_append [] ys l i = rw add-zero
+sets_append (x ∷ xs) ys l i =
     let e : i + suc (length xs) ≡ suc i + length xs = omega arith in
-    rw e (sets-append xs ys (set l i x) (suc i))
+    rw e (sets_append xs ys (set l i x) (suc i))
 
 pub then : (before middle after : List ℕ) (at b c : ℕ) (p q : List ℕ)
     → Put before at p middle b → Put middle b q after c → Put before at (p ++ q) after c
 then before middle after at b c p q v w = record {
   place = omega (arith, v.place, w.place, length-append p q);
-  buffer = w.buffer ∙ rw (v.buffer, v.place) (sets-append p q before at);
+  buffer = w.buffer ∙ rw (v.buffer, v.place) (sets_append p q before at);
 }
 
 -- ---- digits are no full stops
 
-pub digits-whole : (n : ℕ) (l : List ℕ) → sentence (digit n ∷ l) ≡ digit n ∷ sentence l
+pub digits_whole : (n : ℕ) (l : List ℕ) → sentence (digit n ∷ l) ≡ digit n ∷ sentence l
 unfolding sentence digit
-digits-whole n l = rw (ne_eqb (48 + n % 10) 46 (λ e. omega arith))
+digits_whole n l = rw (ne_eqb (48 + n % 10) 46 (λ e. omega arith))
 
 module _ (n : ℕ) (before after : List ℕ) (at next : ℕ) where
-  pub one-digit : (d : ℕ) → n < 10 → d ≡ digit n
+  pub one_digit : (d : ℕ) → n < 10 → d ≡ digit n
       → Put before at (sentence (d ∷ [])) after next → Put before at (decimal n) after next
   unfolding decimal sentence
-  one-digit d h e p = rw (lt-ltb n 10 h) (rw (e, digits-whole n []) at p)
+  one_digit d h e p = rw (lt-ltb n 10 h) (rw (e, digits_whole n []) at p)
 
   pub two_digits : (t d : ℕ) → 10 ≤ n → n < 100 → t ≡ digit (n / 10) → d ≡ digit n
       → Put before at (sentence (t ∷ d ∷ [])) after next → Put before at (decimal n) after next
   unfolding decimal sentence
   two_digits t d g h f e p =
-      let tens = digits-whole (n / 10) (digit n ∷ []) in
-      rw (le-ltb n 10 g, lt-ltb n 100 h) (rw (f, e, tens, digits-whole n []) at p)
+      let tens = digits_whole (n / 10) (digit n ∷ []) in
+      rw (le-ltb n 10 g, lt-ltb n 100 h) (rw (f, e, tens, digits_whole n []) at p)
 
-  pub three-digits : (s t d : ℕ) → 10 ≤ n → 100 ≤ n → s ≡ digit (n / 100) → t ≡ digit (n / 10) → d ≡ digit n
+  pub three_digits : (s t d : ℕ) → 10 ≤ n → 100 ≤ n → s ≡ digit (n / 100) → t ≡ digit (n / 10) → d ≡ digit n
       → Put before at (sentence (s ∷ t ∷ d ∷ [])) after next → Put before at (decimal n) after next
   unfolding decimal sentence
-  three-digits s t d g h k f e p =
-      let hundreds = digits-whole (n / 100) (digit (n / 10) ∷ digit n ∷ []) in
-      let tens = digits-whole (n / 10) (digit n ∷ []) in
-      rw (le-ltb n 10 g, le-ltb n 100 h) (rw (k, f, e, hundreds, tens, digits-whole n []) at p)
+  three_digits s t d g h k f e p =
+      let hundreds = digits_whole (n / 100) (digit (n / 10) ∷ digit n ∷ []) in
+      let tens = digits_whole (n / 10) (digit n ∷ []) in
+      rw (le-ltb n 10 g, le-ltb n 100 h) (rw (k, f, e, hundreds, tens, digits_whole n []) at p)
 
-pub decimal-size : (n : ℕ) → length (decimal n) ≤ 3
+pub decimal_size : (n : ℕ) → length (decimal n) ≤ 3
 unfolding decimal
-decimal-size n = pick (ltb n 10) (ltb n 100)
+decimal_size n = pick (ltb n 10) (ltb n 100)
   where
     pick : (a b : Bool)
         → length
@@ -104,10 +104,10 @@ decimal-size n = pick (ltb n 10) (ltb n 100)
 
 -- ---- the rows of a table
 
-sentence-size : (l : List ℕ) → length (sentence l) ≤ length l
+sentence_size : (l : List ℕ) → length (sentence l) ≤ length l
 unfolding sentence
-sentence-size [] = omega arith
-sentence-size (b ∷ l) = pick (eqb b 46) (sentence-size l)
+sentence_size [] = omega arith
+sentence_size (b ∷ l) = pick (eqb b 46) (sentence_size l)
   where
     pick : (t : Bool) → length (sentence l) ≤ length l → length (cond t [] (b ∷ sentence l)) ≤ length (b ∷ l)
     pick true h = omega arith
@@ -118,12 +118,12 @@ pub width : (start : ℕ) → start + 48 - start ≡ 48
 width start = omega arith
 
 -- a row takes no more than its width
-pub row-size : (table : List ℕ) (n : ℕ) → length (row table n) ≤ 48
+pub row_size : (table : List ℕ) (n : ℕ) → length (row table n) ≤ 48
 unfolding row letters
-row-size table n = pick (leb (n * 48 + 48) (length table))
+row_size table n = pick (leb (n * 48 + 48) (length table))
   where
     pick : (t : Bool) → length (cond t (sentence (take 48 (drop (n * 48) table))) (letters "no such number")) ≤ 48
-    pick true = omega (arith, sentence-size (take 48 (drop (n * 48) table)), length-take 48 (drop (n * 48) table))
+    pick true = omega (arith, sentence_size (take 48 (drop (n * 48) table)), length-take 48 (drop (n * 48) table))
     pick false = omega arith
 
 -- the sentences of as many rows as there are words
@@ -167,7 +167,7 @@ told before after table n r k e p =
     let found = row_words table n k e in
     let w = rw found at p in
     let size = ap length found in
-    let s : length (refusal n) ≤ 64 = simp length-append (omega (arith, decimal-size n, row-size table n, size)) in
+    let s : length (refusal n) ≤ 64 = simp length-append (omega (arith, decimal_size n, row_size table n, size)) in
     record {
       size = omega (arith, w.place);
       fits = omega (arith, w.place);

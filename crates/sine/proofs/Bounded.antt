@@ -12,13 +12,13 @@ use lib.IntN.{pos}
 use lib.ListN.{length, get_or}
 use lib.Ieee.{Float, nan, inf, fin, binary32, up, down, unlike, le, lt, eq, sub, add, sum, neg, round}
 use lib.Ieee.Fits.{down_pos, and_l, and_r, and_i}
-use Rattle.numbers.specs.F32.{◌⊖◌, decimal, minusDecimal}
-use Rattle.numbers.proofs.Casts.{or-i, le-or, ge-or}
+use Rattle.numbers.specs.F32.{◌⊖◌, decimal, minus_decimal}
+use Rattle.numbers.proofs.Casts.{or_i, le_or, ge_or}
 use Rattle.numbers.proofs.Sizes.{Held, held}
-use Rattle.sine.specs.Table.{lutSine}
-use Rattle.sine.specs.Pairs.{pairsOf, sinePairs}
+use Rattle.sine.specs.Table.{lut_sine}
+use Rattle.sine.specs.Pairs.{pairs_of, sine_pairs}
 use Rattle.sine.specs.Bound.{within}
-use Rattle.sine.proofs.Paired.{at-twice, after-twice}
+use Rattle.sine.proofs.Paired.{at_twice, after_twice}
 
 -- ---- the test
 
@@ -51,98 +51,98 @@ unfolding small room
 stays a w = small a && (small w && room a w)
 
 -- each entry of a table and its way to the next
-unfoldable allStay : List Float → Bool
+unfoldable all_stay : List Float → Bool
 unfolding small stays
-allStay [] = true
-allStay (a ∷ []) = small a
-allStay (a ∷ b ∷ xs) = stays a (b ⊖ a) && allStay (b ∷ xs)
+all_stay [] = true
+all_stay (a ∷ []) = small a
+all_stay (a ∷ b ∷ xs) = stays a (b ⊖ a) && all_stay (b ∷ xs)
 
-table_stays : T (allStay lutSine)
-unfolding lutSine allStay stays small room together decimal minusDecimal sub add sum neg round
+table_stays : T (all_stay lut_sine)
+unfolding lut_sine all_stay stays small room together decimal minus_decimal sub add sum neg round
 table_stays = tt
 
 -- ---- what it says of each entry, and of each way
 
-at_entry : (xs : List Float) → T (allStay xs) → (k : ℕ) → k < length xs → T (small (get_or xs k nan))
-unfolding allStay stays
+at_entry : (xs : List Float) → T (all_stay xs) → (k : ℕ) → k < length xs → T (small (get_or xs k nan))
+unfolding all_stay stays
 at_entry [] t k h = absurd (not-suc-le-zero h)
 at_entry (a ∷ []) t zero h = t
 at_entry (a ∷ []) t (suc k) h = absurd (not-suc-le-zero (le_of_suc-le-suc h))
 at_entry (a ∷ b ∷ xs) t zero h =
-    and_l (small a) (small (b ⊖ a) && room a (b ⊖ a)) (and_l (stays a (b ⊖ a)) (allStay (b ∷ xs)) t)
+    and_l (small a) (small (b ⊖ a) && room a (b ⊖ a)) (and_l (stays a (b ⊖ a)) (all_stay (b ∷ xs)) t)
 at_entry (a ∷ b ∷ xs) t (suc k) h =
-    at_entry (b ∷ xs) (and_r (stays a (b ⊖ a)) (allStay (b ∷ xs)) t) k (le_of_suc-le-suc h)
+    at_entry (b ∷ xs) (and_r (stays a (b ⊖ a)) (all_stay (b ∷ xs)) t) k (le_of_suc-le-suc h)
 
-at-way : (xs : List Float) → T (allStay xs) → (k : ℕ) → k + 1 < length xs
+at_way : (xs : List Float) → T (all_stay xs) → (k : ℕ) → k + 1 < length xs
     → T (stays (get_or xs k nan) (get_or xs (k + 1) nan ⊖ get_or xs k nan))
-unfolding allStay
-at-way [] t k h = absurd (not-suc-le-zero h)
-at-way (a ∷ []) t zero h = absurd (not-suc-le-zero (le_of_suc-le-suc h))
-at-way (a ∷ []) t (suc k) h = let z : ⊥ = omega arith in absurd z
-at-way (a ∷ b ∷ xs) t zero h = and_l (stays a (b ⊖ a)) (allStay (b ∷ xs)) t
-at-way (a ∷ b ∷ xs) t (suc k) h =
+unfolding all_stay
+at_way [] t k h = absurd (not-suc-le-zero h)
+at_way (a ∷ []) t zero h = absurd (not-suc-le-zero (le_of_suc-le-suc h))
+at_way (a ∷ []) t (suc k) h = let z : ⊥ = omega arith in absurd z
+at_way (a ∷ b ∷ xs) t zero h = and_l (stays a (b ⊖ a)) (all_stay (b ∷ xs)) t
+at_way (a ∷ b ∷ xs) t (suc k) h =
     let e : suc k + 1 ≡ suc (k + 1) = omega arith in
-    rw e (at-way (b ∷ xs) (and_r (stays a (b ⊖ a)) (allStay (b ∷ xs)) t) k (omega arith))
+    rw e (at_way (b ∷ xs) (and_r (stays a (b ⊖ a)) (all_stay (b ∷ xs)) t) k (omega arith))
 
-pub way-stays : (k : ℕ) → k < 640 → T (stays (get_or lutSine k nan) (get_or lutSine (k + 1) nan ⊖ get_or lutSine k nan))
-unfolding lutSine
-way-stays k h = at-way lutSine table_stays k (omega arith)
+pub way_stays : (k : ℕ) → k < 640 → T (stays (get_or lut_sine k nan) (get_or lut_sine (k + 1) nan ⊖ get_or lut_sine k nan))
+unfolding lut_sine
+way_stays k h = at_way lut_sine table_stays k (omega arith)
 
 -- ---- as the bound
 
-small-held : (x : Float) → T (small x) → Held 1 1 x
+small_held : (x : Float) → T (small x) → Held 1 1 x
 unfolding small
-small-held nan t = absurd t
-small-held (inf s) t = absurd t
-small-held (fin s m e) t = held s m e (let z = leb→le (m * up e) (down e) t in omega arith)
+small_held nan t = absurd t
+small_held (inf s) t = absurd t
+small_held (fin s m e) t = held s m e (let z = leb→le (m * up e) (down e) t in omega arith)
 
-pub held-within : (x : Float) → Held 1 1 x → T (within x)
-unfolding within le lt eq decimal minusDecimal
-held-within _ (held false m e h) =
+pub held_within : (x : Float) → Held 1 1 x → T (within x)
+unfolding within le lt eq decimal minus_decimal
+held_within _ (held false m e h) =
     let p = down_pos e in
     and_i (le (fin true 1 (pos 0)) (fin false m e)) (le (fin false m e) (fin false 1 (pos 0)))
-    (or-i (ltb 0 (1 * 1 * down e + m * up e * 1)) _ (lt→ltb 0 (1 * 1 * down e + m * up e * 1) (omega arith)))
-    (le-or (m * up e * 1) (1 * 1 * down e) (omega arith))
-held-within _ (held true m e h) =
+    (or_i (ltb 0 (1 * 1 * down e + m * up e * 1)) _ (lt→ltb 0 (1 * 1 * down e + m * up e * 1) (omega arith)))
+    (le_or (m * up e * 1) (1 * 1 * down e) (omega arith))
+held_within _ (held true m e h) =
     let p = down_pos e in
     and_i (le (fin true 1 (pos 0)) (fin true m e)) (le (fin true m e) (fin false 1 (pos 0)))
-    (ge-or (1 * 1 * down e) (m * up e * 1) (omega arith))
-    (or-i (ltb 0 (m * up e * 1 + 1 * 1 * down e)) _ (lt→ltb 0 (m * up e * 1 + 1 * 1 * down e) (omega arith)))
+    (ge_or (1 * 1 * down e) (m * up e * 1) (omega arith))
+    (or_i (ltb 0 (m * up e * 1 + 1 * 1 * down e)) _ (lt→ltb 0 (m * up e * 1 + 1 * 1 * down e) (omega arith)))
 
-pub table-within : (k : ℕ) → k < 641 → T (within (get_or lutSine k nan))
-unfolding lutSine
-table-within k h = held-within _ (small-held _ (at_entry lutSine table_stays k (omega arith)))
+pub table_within : (k : ℕ) → k < 641 → T (within (get_or lut_sine k nan))
+unfolding lut_sine
+table_within k h = held_within _ (small_held _ (at_entry lut_sine table_stays k (omega arith)))
 
-pub way-within : (k : ℕ) → k < 640 → T (within (get_or lutSine (k + 1) nan ⊖ get_or lutSine k nan))
+pub way_within : (k : ℕ) → k < 640 → T (within (get_or lut_sine (k + 1) nan ⊖ get_or lut_sine k nan))
 unfolding stays
-way-within k h =
-    let a = get_or lutSine k nan in
-    let w = get_or lutSine (k + 1) nan ⊖ a in
-    held-within w (small-held w (and_l (small w) (room a w) (and_r (small a) (small w && room a w) (way-stays k h))))
+way_within k h =
+    let a = get_or lut_sine k nan in
+    let w = get_or lut_sine (k + 1) nan ⊖ a in
+    held_within w (small_held w (and_l (small w) (room a w) (and_r (small a) (small w && room a w) (way_stays k h))))
 
 -- an entry of the pairs is an entry of the table, or a way
 either : (P : Float → Type 0) (lut : List Float) → 512 < length lut → (i : ℕ) → i < 1024 → P (get_or lut (i / 2) nan)
-    → P (get_or lut (i / 2 + 1) nan ⊖ get_or lut (i / 2) nan) → P (get_or (pairsOf 512 lut) i nan)
+    → P (get_or lut (i / 2 + 1) nan ⊖ get_or lut (i / 2) nan) → P (get_or (pairs_of 512 lut) i nan)
 either P lut l i h a w = go (i % 2) (omega arith) (omega arith)
   where
     k : ℕ
     k = i / 2
 
-    go : (r : ℕ) → r < 2 → i ≡ 2 * k + r → P (get_or (pairsOf 512 lut) i nan)
+    go : (r : ℕ) → r < 2 → i ≡ 2 * k + r → P (get_or (pairs_of 512 lut) i nan)
     go zero p e =
         let f : 2 * k ≡ i = omega arith in
-        subst (λ (n : ℕ). P (get_or (pairsOf 512 lut) n nan)) f (subst P (sym (at-twice 512 lut k (omega arith) l)) a)
+        subst (λ (n : ℕ). P (get_or (pairs_of 512 lut) n nan)) f (subst P (sym (at_twice 512 lut k (omega arith) l)) a)
     go (suc zero) p e =
-        subst (λ (n : ℕ). P (get_or (pairsOf 512 lut) n nan)) (sym e)
-        (subst P (sym (after-twice 512 lut k (omega arith) l)) w)
+        subst (λ (n : ℕ). P (get_or (pairs_of 512 lut) n nan)) (sym e)
+        (subst P (sym (after_twice 512 lut k (omega arith) l)) w)
     go (suc (suc r)) p e = let z : ⊥ = omega arith in absurd z
 
-long : 512 < length lutSine
-unfolding lutSine
+long : 512 < length lut_sine
+unfolding lut_sine
 long = omega arith
 
-pub pairs-within : (i : ℕ) → i < 1024 → T (within (get_or sinePairs i nan))
-unfolding sinePairs
-pairs-within i h =
-    either (λ (x : Float). T (within x)) lutSine long i h (table-within (i / 2) (omega arith))
-    (way-within (i / 2) (omega arith))
+pub pairs_within : (i : ℕ) → i < 1024 → T (within (get_or sine_pairs i nan))
+unfolding sine_pairs
+pairs_within i h =
+    either (λ (x : Float). T (within x)) lut_sine long i h (table_within (i / 2) (omega arith))
+    (way_within (i / 2) (omega arith))

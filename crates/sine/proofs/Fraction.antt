@@ -17,8 +17,8 @@ use lib.Ieee.Scale.{round_same}
 use Rattle.numbers.specs.F32.{◌⊕◌, ◌⊗◌, ◌⊘◌, decimal, as_float}
 use Rattle.numbers.specs.Words.{shifted32}
 use Rattle.numbers.proofs.Views.{on}
-use Rattle.utils.proofs.Whole.{whole-exact}
-use Rattle.sine.specs.Sine.{phaseLine}
+use Rattle.utils.proofs.Whole.{whole_exact}
+use Rattle.sine.specs.Sine.{phase_line}
 
 -- a whole number over 2 ^ k
 over : (x : Float) (a k : ℕ) → HasValue x false a 1
@@ -40,13 +40,13 @@ fraction p =
     rw e
     (over (as_float q) q 23 (round_whole binary32 false q (omega arith))
     ∙ round_same binary32 false q (2 ^ 23) (q * 2 ^ 9) (2 ^ 32) (pow_pos 23) (pow_pos 32) (omega arith)
-    ∙ sym (over (as_float (q * 2 ^ 9)) (q * 2 ^ 9) 32 (whole-exact q 9 (omega arith) (omega arith))))
+    ∙ sym (over (as_float (q * 2 ^ 9)) (q * 2 ^ 9) 32 (whole_exact q 9 (omega arith) (omega arith))))
 
 -- the line, with what the highest nine bits leave of the phase
-pub line-is : (pairs : List Float) (p : ℕ) {a way : Float} → a ≡ get_or pairs (2 * (p / 2 ^ 23)) nan
+pub line_is : (pairs : List Float) (p : ℕ) {a way : Float} → a ≡ get_or pairs (2 * (p / 2 ^ 23)) nan
     → way ≡ get_or pairs (2 * (p / 2 ^ 23) + 1) nan
-    → a ⊕ way ⊗ (as_float (p - p / 8388608 * 8388608) ⊘ decimal 8388608 0) ≡ phaseLine pairs p
-unfolding phaseLine
-line-is pairs p ea ew =
+    → a ⊕ way ⊗ (as_float (p - p / 8388608 * 8388608) ⊘ decimal 8388608 0) ≡ phase_line pairs p
+unfolding phase_line
+line_is pairs p ea ew =
     let e : p - p / 8388608 * 8388608 ≡ p % 8388608 = omega arith in
     simp (ea, ew, e, fraction p)

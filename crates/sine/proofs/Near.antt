@@ -15,16 +15,16 @@ use lib.Ieee.Fits.{down_pos}
 use lib.Ieee.Order.{round_mono}
 use lib.Ieee.Positive.{positive, between, first_pos, mul_mono}
 use Rattle.numbers.specs.F32.{◌⊕◌, ◌⊗◌}
-use Rattle.numbers.proofs.Views.{no, both, or-le, or-ge, AtLeast, ge-inf, ge-fin, at_least, Under, lt-inf, lt-neg}
-use Rattle.numbers.proofs.Views.{lt-fin, nlt-inf, nlt-fin}
+use Rattle.numbers.proofs.Views.{no, both, or_le, or_ge, AtLeast, ge_inf, ge_fin, at_least, Under, lt_inf, lt_neg}
+use Rattle.numbers.proofs.Views.{lt_fin, nlt_inf, nlt_fin}
 use Rattle.numbers.proofs.Casts.{too_large, at_least_no_nan}
 
 -- the lift, the steps of a turn, and the ends of the lifted modulation
 abbrev pub lift : Float
 lift = fin false 1 (pos 5)
 
-abbrev pub per-turn : Float
-per-turn = fin false 1 (pos 26)
+abbrev pub per_turn : Float
+per_turn = fin false 1 (pos 26)
 
 abbrev pub lowest : Float
 lowest = fin false 1 (pos 0)
@@ -32,35 +32,35 @@ lowest = fin false 1 (pos 0)
 abbrev pub highest : Float
 highest = fin false 31 (pos 1)
 
-same-per-turn : T (le per-turn per-turn)
+same_per_turn : T (le per_turn per_turn)
 unfolding le lt eq
-same-per-turn = tt
+same_per_turn = tt
 
 -- ---- the sum
 
 unfoldable pub Within : Float → Type 0
 Within l = T (le lowest l) × T (le l highest)
 
-rounded-within : (a c : ℕ) → 0 < c → c ≤ a → a ≤ 62 * c → Within (round binary32 false a c)
+rounded_within : (a c : ℕ) → 0 < c → c ≤ a → a ≤ 62 * c → Within (round binary32 false a c)
 unfolding Within round
-rounded-within a c p h k = (round_mono binary32 1 1 a c (omega arith) p (omega arith), round_mono binary32 a c 62 1 p (omega arith) (omega arith))
+rounded_within a c p h k = (round_mono binary32 1 1 a c (omega arith) p (omega arith), round_mono binary32 a c 62 1 p (omega arith) (omega arith))
 
-lifted-within : (pm : Float) → le (fin true 31 (pos 0)) pm ≡ true → le pm (fin false 15 (pos 1)) ≡ true
+lifted_within : (pm : Float) → le (fin true 31 (pos 0)) pm ≡ true → le pm (fin false 15 (pos 1)) ≡ true
     → Within (pm ⊕ lift)
 unfolding add sum le lt eq
-lifted-within nan h k = no h
-lifted-within (inf true) h k = no h
-lifted-within (inf false) h k = no k
-lifted-within (fin false m e) h k =
-    let z = or-le (m * up e * 1) (15 * 2 ^ 1 * down e) true k in
-    rounded-within (m * up e * 1 + 1 * 2 ^ 5 * down e) (down e * 1) (let d =
+lifted_within nan h k = no h
+lifted_within (inf true) h k = no h
+lifted_within (inf false) h k = no k
+lifted_within (fin false m e) h k =
+    let z = or_le (m * up e * 1) (15 * 2 ^ 1 * down e) true k in
+    rounded_within (m * up e * 1 + 1 * 2 ^ 5 * down e) (down e * 1) (let d =
     down_pos e in omega arith) (omega arith) (omega arith)
-lifted-within (fin true m e) h k =
-    let z = or-ge (31 * 1 * down e) (m * up e * 1) true h in
+lifted_within (fin true m e) h k =
+    let z = or_ge (31 * 1 * down e) (m * up e * 1) true h in
     let d = down_pos e in
     let l : ltb (m * up e * 1) (1 * 2 ^ 5 * down e) ≡ true = lt-ltb (m * up e * 1) (1 * 2 ^ 5 * down e) (omega arith) in
     subst (λ (b : Bool). Within (cond b (round binary32 false (1 * 2 ^ 5 * down e - m * up e * 1) (down e * 1)) (round binary32 (ltb (1 * 2 ^ 5 * down e) (m * up e * 1)) (m * up e * 1 - 1 * 2 ^ 5 * down e) (down e * 1)))) (sym l)
-    (rounded-within (1 * 2 ^ 5 * down e - m * up e * 1) (down e * 1) (omega arith) (omega arith) (omega arith))
+    (rounded_within (1 * 2 ^ 5 * down e - m * up e * 1) (down e * 1) (omega arith) (omega arith) (omega arith))
 
 -- ---- the product
 
@@ -68,43 +68,43 @@ lifted-within (fin true m e) h k =
 pub at_most : (j k : ℕ) → 31 * 2 ^ j < 2 ^ k → (x : Float) → le x (fin false 31 (pos j)) ≡ true → Under k x
 unfolding le lt eq
 at_most j k p nan h = no h
-at_most j k p (inf true) h = lt-inf
+at_most j k p (inf true) h = lt_inf
 at_most j k p (inf false) h = no h
-at_most j k p (fin true m e) h = lt-neg m e
+at_most j k p (fin true m e) h = lt_neg m e
 at_most j k p (fin false m e) h =
-    let z = or-le (m * up e * 1) (31 * 2 ^ j * down e) true h in
+    let z = or_le (m * up e * 1) (31 * 2 ^ j * down e) true h in
     let d = down_pos e in
     let g : 31 * 2 ^ j * down e + down e ≤ 2 ^ k * down e = rw (← suc-mul (31 * 2 ^ j) (down e)) (mul-le-mul_right (down e) p) in
-    lt-fin m e (omega arith)
+    lt_fin m e (omega arith)
 
 -- 2 ^ k at least, so 2 ^ j at least
 pub fewer : (j k : ℕ) → 2 ^ j ≤ 2 ^ k → (x : Float) → AtLeast k x → AtLeast j x
-fewer j k p _ ge-inf = ge-inf
-fewer j k p _ (ge-fin m e g) = ge-fin m e (le_trans (mul-le-mul_right (down e) p) g)
+fewer j k p _ ge_inf = ge_inf
+fewer j k p _ (ge_fin m e g) = ge_fin m e (le_trans (mul-le-mul_right (down e) p) g)
 
-pub within-whole : (l : Float) → Within l → AtLeast 23 (l ⊗ per-turn)
+pub within_whole : (l : Float) → Within l → AtLeast 23 (l ⊗ per_turn)
 unfolding Within mul round
-within-whole l (h, k) =
-    fewer 23 26 (omega arith) (l ⊗ per-turn) (at_least 26 (l ⊗ per-turn) (is_true (le (fin false 1 (pos 26)) (l ⊗ per-turn)) (mul_mono binary32 lowest l per-turn per-turn tt (between lowest l highest tt tt h k) tt tt h same-per-turn)))
+within_whole l (h, k) =
+    fewer 23 26 (omega arith) (l ⊗ per_turn) (at_least 26 (l ⊗ per_turn) (is_true (le (fin false 1 (pos 26)) (l ⊗ per_turn)) (mul_mono binary32 lowest l per_turn per_turn tt (between lowest l highest tt tt h k) tt tt h same_per_turn)))
 
-pub within-below : (l : Float) → Within l → Under 32 (l ⊗ per-turn)
+pub within_below : (l : Float) → Within l → Under 32 (l ⊗ per_turn)
 unfolding Within mul round
-within-below l (h, k) = at_most 27 32 (omega arith) (l ⊗ per-turn) (is_true (le (l ⊗ per-turn) (fin false 31 (pos 27))) (mul_mono binary32 l highest per-turn per-turn (between lowest l highest tt tt h k) tt tt tt k same-per-turn))
+within_below l (h, k) = at_most 27 32 (omega arith) (l ⊗ per_turn) (is_true (le (l ⊗ per_turn) (fin false 31 (pos 27))) (mul_mono binary32 l highest per_turn per_turn (between lowest l highest tt tt h k) tt tt tt k same_per_turn))
 
 -- from 64 on the cast gives the largest number
 all : (x : Float) → AtLeast 32 x → to_unsigned 32 x ≡ 2 ^ 32 - 1
-all _ ge-inf = too_large 32 (inf false) nlt-inf (at_least_no_nan 32 (inf false) ge-inf)
-all _ (ge-fin m e g) = too_large 32 (fin false m e) (nlt-fin m e g) (at_least_no_nan 32 (fin false m e) (ge-fin m e g))
+all _ ge_inf = too_large 32 (inf false) nlt_inf (at_least_no_nan 32 (inf false) ge_inf)
+all _ (ge_fin m e g) = too_large 32 (fin false m e) (nlt_fin m e g) (at_least_no_nan 32 (fin false m e) (ge_fin m e g))
 
-pub far-all : (l : Float) → le (fin false 1 (pos 6)) l ≡ true → to_unsigned 32 (l ⊗ per-turn) ≡ 2 ^ 32 - 1
+pub far_all : (l : Float) → le (fin false 1 (pos 6)) l ≡ true → to_unsigned 32 (l ⊗ per_turn) ≡ 2 ^ 32 - 1
 unfolding mul round
-far-all l h = go l h (at_least 6 l h)
+far_all l h = go l h (at_least 6 l h)
   where
-    go : (x : Float) → le (fin false 1 (pos 6)) x ≡ true → AtLeast 6 x → to_unsigned 32 (x ⊗ per-turn) ≡ 2 ^ 32 - 1
-    go _ k ge-inf = all (inf false) ge-inf
-    go _ k (ge-fin m e g) =
+    go : (x : Float) → le (fin false 1 (pos 6)) x ≡ true → AtLeast 6 x → to_unsigned 32 (x ⊗ per_turn) ≡ 2 ^ 32 - 1
+    go _ k ge_inf = all (inf false) ge_inf
+    go _ k (ge_fin m e g) =
         let p : T (positive (fin false m e)) = lt→ltb 0 m (first_pos m (up e) (let d = down_pos e in omega arith)) in
-        all (fin false m e ⊗ per-turn) (at_least 32 (fin false m e ⊗ per-turn) (is_true (le (fin false 1 (pos 32)) (fin false m e ⊗ per-turn)) (mul_mono binary32 (fin false 1 (pos 6)) (fin false m e) per-turn per-turn tt p tt tt (subst T (sym k) tt) same-per-turn)))
+        all (fin false m e ⊗ per_turn) (at_least 32 (fin false m e ⊗ per_turn) (is_true (le (fin false 1 (pos 32)) (fin false m e ⊗ per_turn)) (mul_mono binary32 (fin false 1 (pos 6)) (fin false m e) per_turn per_turn tt p tt tt (subst T (sym k) tt) same_per_turn)))
 
 -- ---- by the code's test
 
@@ -112,4 +112,4 @@ pub near_within : (pm : Float) → (le (fin true 31 (pos 0)) pm && le pm (fin fa
     → Within (pm ⊕ lift)
 near_within pm h =
     let p = both (le (fin true 31 (pos 0)) pm) (le pm (fin false 15 (pos 1))) h in
-    lifted-within pm p.0 p.1
+    lifted_within pm p.0 p.1

@@ -19,9 +19,9 @@ use mir.Syntax.{w64}
 use mir.Val.{to_z, of_z}
 use mir.ValLaws.{to_z_pos}
 use Rattle.numbers.specs.F32.{◌⊕◌, ◌⊗◌}
-use Rattle.numbers.proofs.Views.{on, AtLeast, ge-fin, Under, lt-fin}
+use Rattle.numbers.proofs.Views.{on, AtLeast, ge_fin, Under, lt_fin}
 use Rattle.numbers.proofs.Casts.{no_fraction, digits_lt}
-use Rattle.sine.proofs.Near.{lift, per-turn, lowest, highest, Within, near_within, within-whole, within-below}
+use Rattle.sine.proofs.Near.{lift, per_turn, lowest, highest, Within, near_within, within_whole, within_below}
 
 -- a turn in the phase's steps
 abbrev pub turn : Float
@@ -29,30 +29,30 @@ turn = fin false 1 (pos 32)
 
 -- ---- what a whole number is cast to
 
-pub value-no-nan : (x : Float) (n : ℕ) → HasValue x false n 1 → is_nan x ≡ false
+pub value_no_nan : (x : Float) (n : ℕ) → HasValue x false n 1 → is_nan x ≡ false
 unfolding is_nan
-value-no-nan nan n v = absurd v
-value-no-nan (inf s) n v = absurd v
-value-no-nan (fin s m e) n v = refl
+value_no_nan nan n v = absurd v
+value_no_nan (inf s) n v = absurd v
+value_no_nan (fin s m e) n v = refl
 
 quotient : (m n : ℕ) (e : ℤ) → m * up e * 1 ≡ n * down e → (m * up e / down e ≡ n) × (m * up e % down e ≡ 0)
 quotient m n e v =
     let w : m * up e ≡ n * down e = sym (mul-one (m * up e)) ∙ v in
     rw w (mul-div_cancel n (down_pos e), mul-mod_left n (down e))
 
-pub value-cast : (w n : ℕ) (x : Float) → HasValue x false n 1 → n < 2 ^ w → to_unsigned w x ≡ n
+pub value_cast : (w n : ℕ) (x : Float) → HasValue x false n 1 → n < 2 ^ w → to_unsigned w x ≡ n
 unfolding to_unsigned
-value-cast w n nan v h = absurd v
-value-cast w n (inf s) v h = absurd v
-value-cast w n (fin true m e) v h = on v.0
-value-cast w n (fin false m e) v h = rw (quotient m n e v.1).0 (omega arith)
+value_cast w n nan v h = absurd v
+value_cast w n (inf s) v h = absurd v
+value_cast w n (fin true m e) v h = on v.0
+value_cast w n (fin false m e) v h = rw (quotient m n e v.1).0 (omega arith)
 
-pub value-signed : (h n : ℕ) (x : Float) → HasValue x false n 1 → n < 2 ^ h → to_signed h x ≡ pos n
+pub value_signed : (h n : ℕ) (x : Float) → HasValue x false n 1 → n < 2 ^ h → to_signed h x ≡ pos n
 unfolding to_signed
-value-signed h n nan v b = absurd v
-value-signed h n (inf s) v b = absurd v
-value-signed h n (fin true m e) v b = on v.0
-value-signed h n (fin false m e) v b = rw (quotient m n e v.1).0 (ap pos (omega arith))
+value_signed h n nan v b = absurd v
+value_signed h n (inf s) v b = absurd v
+value_signed h n (fin true m e) v b = on v.0
+value_signed h n (fin false m e) v b = rw (quotient m n e v.1).0 (ap pos (omega arith))
 
 pub value_in : (w n : ℕ) (x : Float) → HasValue x false n 1 → n ≤ 2 ^ 53 → n < 2 ^ w → T (in_signed binary64 w x)
 unfolding in_signed whole
@@ -66,10 +66,10 @@ value_in w n (fin false m e) v k h =
 -- ---- a power of two moves the exponent alone
 
 -- two fractions that a float equals
-same-value : (x : Float) (n g d : ℕ) → HasValue x false n 1 → HasValue x false g d → n * d ≡ g
-same-value nan n g d v w = absurd v
-same-value (inf s) n g d v w = absurd v
-same-value (fin s m e) n g d v w =
+same_value : (x : Float) (n g d : ℕ) → HasValue x false n 1 → HasValue x false g d → n * d ≡ g
+same_value nan n g d v w = absurd v
+same_value (inf s) n g d v w = absurd v
+same_value (fin s m e) n g d v w =
     eq_of_mul-eq-mul_right (down e) (down_pos e) (n * d) g
     (mul_right_comm n d (down e) ∙ ap (λ (z : ℕ). z * d) (sym v.1 ∙ mul-one (m * up e)) ∙ w.1)
 
@@ -88,7 +88,7 @@ raised f a c t n p q s r v =
     let x = round f false a c in
     let y = round f false (a * 2 ^ t) c in
     let d = 2 ^ low f in
-    let g = same-value x n (grid f a c) d v (round_val f a c (round_under f a c s)) in
+    let g = same_value x n (grid f a c) d v (round_val f a c (round_under f a c s)) in
     let w = round_val f (a * 2 ^ t) c (round_under f (a * 2 ^ t) c r) in
     let e : grid f (a * 2 ^ t) c ≡ n * 2 ^ t * d = grid_scale f a c t p q ∙ ap (λ (z : ℕ). z * 2 ^ t) (sym g) ∙ mul_right_comm n d (2 ^ t) in
     lowered y (n * 2 ^ t) d (pow_pos (low f)) (subst (λ (z : ℕ). HasValue y false z d) e w)
@@ -99,21 +99,21 @@ raised f a c t n p q s r v =
 data Whole : Float → Type 0 where
   is_whole : (x : Float) (n : ℕ) → n < 2 ^ 32 → HasValue x false n 1 → Whole x
 
-large-whole : (x : Float) → T (fits binary32 x) → AtLeast 23 x → Under 32 x → Whole x
-large-whole _ f (ge-fin m (negsuc k) g) u = absurd (no_fraction m k (digits_lt m (negsuc k) f) g)
-large-whole _ f (ge-fin m (pos k) g) (lt-fin _ _ l) =
+large_whole : (x : Float) → T (fits binary32 x) → AtLeast 23 x → Under 32 x → Whole x
+large_whole _ f (ge_fin m (negsuc k) g) u = absurd (no_fraction m k (digits_lt m (negsuc k) f) g)
+large_whole _ f (ge_fin m (pos k) g) (lt_fin _ _ l) =
     is_whole (fin false m (pos k)) (m * 2 ^ k) (omega arith) (refl, refl)
 
-pub large-finite : (x : Float) → AtLeast 23 x → Under 32 x → T (finite x)
-large-finite _ (ge-fin m e g) u = tt
+pub large_finite : (x : Float) → AtLeast 23 x → Under 32 x → T (finite x)
+large_finite _ (ge_fin m e g) u = tt
 
 same_turn : T (le turn turn)
 unfolding le lt eq
 same_turn = tt
 
-turn-finite : (l : Float) → Within l → T (finite (l ⊗ turn))
+turn_finite : (l : Float) → Within l → T (finite (l ⊗ turn))
 unfolding Within mul round
-turn-finite l (h, k) =
+turn_finite l (h, k) =
     let p = between lowest l highest tt tt h k in
     positive-finite (l ⊗ turn)
     (between (lowest ⊗ turn) (l ⊗ turn) (highest ⊗ turn) tt tt (mul_mono binary32 lowest l turn turn tt p tt tt h same_turn) (mul_mono binary32 l highest turn turn p tt tt tt k same_turn))
@@ -129,25 +129,25 @@ normal : (n d u : ℕ) → d ≤ n → 0 < u → 2 ^ 23 * (d * 1) ≤ n * 2 ^ 26
 normal n d u h p = let z = mul-le-mul_left (n * 2 ^ 26) p in omega arith
 
 module _ (l : Float) (p : T (positive l)) (h : den l ≤ num l) where
-  scaled-is : l ⊗ per-turn ≡ round binary32 false (num l * 2 ^ 26) (den l * 1)
-  scaled-is =
-      mul_at binary32 l per-turn (num l) (den l) (2 ^ 26) 1 p tt (den_pos l) (omega arith) (own_value l p) (refl, refl)
+  scaled_is : l ⊗ per_turn ≡ round binary32 false (num l * 2 ^ 26) (den l * 1)
+  scaled_is =
+      mul_at binary32 l per_turn (num l) (den l) (2 ^ 26) 1 p tt (den_pos l) (omega arith) (own_value l p) (refl, refl)
 
-  turned-is : l ⊗ turn ≡ round binary32 false (num l * 2 ^ 26 * 2 ^ 6) (den l * 1)
-  turned-is =
+  turned_is : l ⊗ turn ≡ round binary32 false (num l * 2 ^ 26 * 2 ^ 6) (den l * 1)
+  turned_is =
       mul_at binary32 l turn (num l) (den l) (2 ^ 32) 1 p tt (den_pos l) (omega arith) (own_value l p) (refl, refl)
       ∙ ap (λ (n : ℕ). round binary32 false n (den l * 1)) (sym (mul_assoc (num l) (2 ^ 26) (2 ^ 6)))
 
-  turned-value : (n : ℕ) → T (finite (l ⊗ per-turn)) → T (finite (l ⊗ turn)) → HasValue (l ⊗ per-turn) false n 1
+  turned_value : (n : ℕ) → T (finite (l ⊗ per_turn)) → T (finite (l ⊗ turn)) → HasValue (l ⊗ per_turn) false n 1
       → HasValue (l ⊗ turn) false (n * 2 ^ 6) 1
-  turned-value n s t v =
+  turned_value n s t v =
       let a = num l * 2 ^ 26 in
       let c = den l * 1 in
       let d : 0 < c = (let z = den_pos l in omega arith) in
-      rw turned-is
+      rw turned_is
       (raised binary32 a c 6 n d (normal_of_fraction binary32 a c d (normal (num l) (den l) (2 ^ low binary32) h (pow_pos (low binary32))))
-      (subst (λ (z : Float). T (finite z)) scaled-is s) (subst (λ (z : Float). T (finite z)) turned-is t)
-      (subst (λ (z : Float). HasValue z false n 1) scaled-is v))
+      (subst (λ (z : Float). T (finite z)) scaled_is s) (subst (λ (z : Float). T (finite z)) turned_is t)
+      (subst (λ (z : Float). HasValue z false n 1) scaled_is v))
 
 -- ---- by the code's test
 
@@ -158,22 +158,22 @@ pub record Turned (x : Float) (steps : ℕ) : Type 0 where
   pub cast : to_z w64 (of_z w64 (to_signed 63 x)) ≡ pos (steps * 64)
   pub small : steps * 64 < 2 ^ 64
 
-pub near-turned : (pm : Float) → (le (fin true 31 (pos 0)) pm && le pm (fin false 15 (pos 1))) ≡ true
-    → Turned ((pm ⊕ lift) ⊗ turn) (to_unsigned 32 ((pm ⊕ lift) ⊗ per-turn))
-near-turned pm h = go (pm ⊕ lift) (near_within pm h)
+pub near_turned : (pm : Float) → (le (fin true 31 (pos 0)) pm && le pm (fin false 15 (pos 1))) ≡ true
+    → Turned ((pm ⊕ lift) ⊗ turn) (to_unsigned 32 ((pm ⊕ lift) ⊗ per_turn))
+near_turned pm h = go (pm ⊕ lift) (near_within pm h)
   where
-    go : (l : Float) → Within l → Turned (l ⊗ turn) (to_unsigned 32 (l ⊗ per-turn))
-    go l w = finish (large-whole (l ⊗ per-turn) (mul-fits binary32 l per-turn) (within-whole l w) (within-below l w))
+    go : (l : Float) → Within l → Turned (l ⊗ turn) (to_unsigned 32 (l ⊗ per_turn))
+    go l w = finish (large_whole (l ⊗ per_turn) (mul-fits binary32 l per_turn) (within_whole l w) (within_below l w))
       where
-        finish : Whole (l ⊗ per-turn) → Turned (l ⊗ turn) (to_unsigned 32 (l ⊗ per-turn))
+        finish : Whole (l ⊗ per_turn) → Turned (l ⊗ turn) (to_unsigned 32 (l ⊗ per_turn))
         finish (is_whole _ n b v) =
             let o = at_least_one l w in
-            let t = turned-value l o.0 o.1 n (large-finite (l ⊗ per-turn) (within-whole l w) (within-below l w)) (turn-finite l w) v in
-            let e = value-cast 32 n (l ⊗ per-turn) v b in
+            let t = turned_value l o.0 o.1 n (large_finite (l ⊗ per_turn) (within_whole l w) (within_below l w)) (turn_finite l w) v in
+            let e = value_cast 32 n (l ⊗ per_turn) v b in
             record {
-              no_nan = value-no-nan (l ⊗ turn) (n * 2 ^ 6) t;
+              no_nan = value_no_nan (l ⊗ turn) (n * 2 ^ 6) t;
               accepted = value_in 63 (n * 2 ^ 6) (l ⊗ turn) t (omega arith) (omega arith);
               cast =
-                  rw (value-signed 63 (n * 2 ^ 6) (l ⊗ turn) t (omega arith), e) (to_z_pos w64 (n * 64) (omega arith));
+                  rw (value_signed 63 (n * 2 ^ 6) (l ⊗ turn) t (omega arith), e) (to_z_pos w64 (n * 64) (omega arith));
               small = rw e (omega arith);
             }

@@ -2,16 +2,16 @@
 -- Definitions only, of a way of computing.
 use Rattle.std.specs.Prelude.{List, [], ◌∷◌, ℕ, zero, suc, Float}
 use Rattle.numbers.specs.F32.{◌⊖◌}
-use Rattle.sine.specs.Table.{lutSine}
+use Rattle.sine.specs.Table.{lut_sine}
 
 -- each of a table's first n entries, and beside it the way to the next
-unfoldable pub pairsOf : ℕ → List Float → List Float
-pairsOf zero lut = []
-pairsOf (suc n) [] = []
-pairsOf (suc n) (a ∷ []) = []
-pairsOf (suc n) (a ∷ b ∷ lut) = a ∷ (b ⊖ a) ∷ pairsOf n (b ∷ lut)
+unfoldable pub pairs_of : ℕ → List Float → List Float
+pairs_of zero lut = []
+pairs_of (suc n) [] = []
+pairs_of (suc n) (a ∷ []) = []
+pairs_of (suc n) (a ∷ b ∷ lut) = a ∷ (b ⊖ a) ∷ pairs_of n (b ∷ lut)
 
 -- each of one turn's 512 entries, and beside it the way to the next
-unfoldable pub sinePairs : List Float
-unfolding pairsOf
-sinePairs = pairsOf 512 lutSine
+unfoldable pub sine_pairs : List Float
+unfolding pairs_of
+sine_pairs = pairs_of 512 lut_sine

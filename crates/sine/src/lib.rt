@@ -6,9 +6,9 @@ ghost use Rattle.std.specs.Prelude.{◌≡◌, ◌<◌, T, get_or, true, false};
 ghost use Rattle.std.specs.Float.{nan};
 ghost use Rattle.std.specs.Float.Ieee.{is_nan};
 ghost use Rattle.numbers.specs.Words.{product32};
-ghost use Rattle.sine.specs.Table.{lutSine};
-ghost use Rattle.sine.specs.Pairs.{sinePairs};
-ghost use Rattle.sine.specs.Sine.{sineOf, steps_of, nearBy, modulated, phaseLine, sinePm};
+ghost use Rattle.sine.specs.Table.{lut_sine};
+ghost use Rattle.sine.specs.Pairs.{sine_pairs};
+ghost use Rattle.sine.specs.Sine.{sine_of, steps_of, near_by, modulated, phase_line, sine_pm};
 ghost use Rattle.sine.specs.Bound.{within};
 
 mod pairs;
@@ -16,14 +16,14 @@ mod table;
 
 // The table, to be made a local once and lent from there.
 pub fn lut_sine() -> [f32; 641]
-    ensures { result ≡ lutSine }
+    ensures { result ≡ lut_sine }
 {
     table::LUT_SINE
 }
 
 // One turn of the table as pairs, to be made a local once and lent from there.
 pub fn sine_pairs() -> [f32; 1024]
-    ensures { result ≡ sinePairs }
+    ensures { result ≡ sine_pairs }
 {
     pairs::SINE_PAIRS
 }
@@ -31,8 +31,8 @@ pub fn sine_pairs() -> [f32; 1024]
 // The sine at a phase in turns, of which the whole part is dropped; a negative phase counts as 0. Where the lent table
 // is the sine's, it is finite and from -1 to 1, at an infinite phase too; at a NaN it is a NaN.
 pub fn sine(lut: &[f32; 641], phase: f32) -> f32
-    ensures { (result ≡ sineOf lut.now phase)
-        × (lut.now ≡ lutSine → is_nan phase ≡ false → T (within result)) }
+    ensures { (result ≡ sine_of lut.now phase)
+        × (lut.now ≡ lut_sine → is_nan phase ≡ false → T (within result)) }
 {
     utils::interpolate_wrap(lut, phase, 512.0)
 }
@@ -40,7 +40,7 @@ pub fn sine(lut: &[f32; 641], phase: f32) -> f32
 // The sine at a phase of 32 bits plus a modulation in turns, from -32 up to 32: beyond that, and at a
 // NaN, Rust's cast decides. Where the lent pairs are the sine's, it is finite and from -1 to 1 at every modulation.
 pub fn sine_pm(pairs: &[f32; 1024], phase: u32, pm: f32) -> f32
-    ensures { (result ≡ sinePm pairs.now phase pm) × (pairs.now ≡ sinePairs → T (within result)) }
+    ensures { (result ≡ sine_pm pairs.now phase pm) × (pairs.now ≡ sine_pairs → T (within result)) }
 {
     line(pairs, modulate(phase, pm))
 }
@@ -68,7 +68,7 @@ fn turned(pm: f32) -> u32
 
 // Whether a modulation lies from -31 to 30 turns.
 pub fn is_near(pm: f32) -> bool
-    ensures { result ≡ nearBy pm }
+    ensures { result ≡ near_by pm }
 {
     (pm >= -31.0) & (pm <= 30.0)
 }
@@ -76,7 +76,7 @@ pub fn is_near(pm: f32) -> bool
 // The phase plus a modulation from -31 to 30 turns, wrapped: no test and a cast to i32, so that a loop of it is done
 // four samples at a time.
 pub fn modulate_near(phase: u32, pm: f32) -> u32
-    requires { nearBy pm ≡ true }
+    requires { near_by pm ≡ true }
     ensures { result ≡ modulated phase pm }
 {
     numbers::wrapping_add_u32(phase, turned_near(pm))
@@ -84,7 +84,7 @@ pub fn modulate_near(phase: u32, pm: f32) -> u32
 
 // Such a modulation in the phase's own steps. Lifted it is from 1 to 62, so times 2^25 it is a whole number below 2^31.
 fn turned_near(pm: f32) -> u32
-    requires { nearBy pm ≡ true }
+    requires { near_by pm ≡ true }
     ensures { result ≡ product32 (steps_of pm) 64 }
 {
     let halves = (((pm + 32.0) * 33554432.0) as f64) as i32;
@@ -108,7 +108,7 @@ fn steps(pm: f32) -> u32
 // mask of their own the compiler masks the nine as well, and the load waits for it. Where the lent pairs are the
 // sine's, it is finite and from -1 to 1.
 pub fn line(pairs: &[f32; 1024], phase: u32) -> f32
-    ensures { (result ≡ phaseLine pairs.now phase) × (pairs.now ≡ sinePairs → T (within result)) }
+    ensures { (result ≡ phase_line pairs.now phase) × (pairs.now ≡ sine_pairs → T (within result)) }
 {
     let integral = (phase >> 23) as usize;
     let rest = phase as usize - integral * 8388608;
@@ -121,7 +121,7 @@ pub fn line(pairs: &[f32; 1024], phase: u32) -> f32
 // An entry, or the way to the next. Where the lent pairs are the sine's, it is finite and from -1 to 1.
 fn entry(pairs: &[f32; 1024], i: usize) -> f32
     requires { i < 1024 }
-    ensures { (result ≡ get_or pairs.now i nan) × (pairs.now ≡ sinePairs → T (within result)) }
+    ensures { (result ≡ get_or pairs.now i nan) × (pairs.now ≡ sine_pairs → T (within result)) }
 {
     pairs[i]
 }

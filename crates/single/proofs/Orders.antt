@@ -8,104 +8,104 @@ use native.Mathlib.Omega.{arith}
 use borrow.Author.Tests.{leb-true}
 use lib.Dec.{eqb, leb}
 use lib.ListN.{length}
-use Rattle.dump.specs.Dump.{fixed, channelRow, yamahaForm, largestOf}
+use Rattle.dump.specs.Dump.{fixed, channel_row, yamaha_form, largest_of}
 use Rattle.patch.specs.declared.Patch.{Patch}
-use Rattle.patch.specs.Layout.{later, envelopeField, scalingField, operatorField, lfoField, field_of}
-use Rattle.patch.specs.Layout.{Place, operatorNames, envelopeNames, scalingNames, lfoNames, letters, sharedNames}
+use Rattle.patch.specs.Layout.{later, envelope_field, scaling_field, operator_field, lfo_field, field_of}
+use Rattle.patch.specs.Layout.{Place, operator_names, envelope_names, scaling_names, lfo_names, letters, shared_names}
 use Rattle.patch.specs.Layout.{layout}
-use Rattle.patch.specs.Form.{envelopeWith, scalingWith, operatorWith, modulationsWith, nameWith, patchWith}
-use Rattle.patch.specs.Form.{envelopeNumber, scalingNumber, operatorNumber, lfoNumber, operatorAt, number_of}
+use Rattle.patch.specs.Form.{envelope_with, scaling_with, operator_with, modulations_with, name_with, patch_with}
+use Rattle.patch.specs.Form.{envelope_number, scaling_number, operator_number, lfo_number, operator_at, number_of}
 use Rattle.patch.specs.Form.{ShapedEnvelope, Shaped}
-use Rattle.patch.specs.Packed.{within, patchFits}
-use Rattle.patch.proofs.Each.{every, Each, each, both-each, each_within}
-use Rattle.patch.specs.Positions.{envelopePosition, scalingPosition, operatorPosition, lfoPosition, position}
-use Rattle.patch.proofs.Made.{firsts, listed, patch-numbers}
-use Rattle.patch.proofs.Positions.{countFrom}
-use Rattle.patch_numbers.specs.Numbers.{numbersOf, patch_of}
-use Rattle.single.specs.Single.{singleForm, singleNames, singleOrder, standIn, dataBytes, patchIn}
-use Rattle.single.specs.Single.{turnedPlace, turnedFrom, turned}
-use Rattle.single.proofs.Turns.{turned-low}
+use Rattle.patch.specs.Packed.{within, patch_fits}
+use Rattle.patch.proofs.Each.{every, Each, each, both_each, each_within}
+use Rattle.patch.specs.Positions.{envelope_position, scaling_position, operator_position, lfo_position, position}
+use Rattle.patch.proofs.Made.{firsts, listed, patch_numbers}
+use Rattle.patch.proofs.Positions.{count_from}
+use Rattle.patch_numbers.specs.Numbers.{numbers_of, patch_of}
+use Rattle.single.specs.Single.{single_form, single_names, single_order, stand_in, data_bytes, patch_in}
+use Rattle.single.specs.Single.{turned_place, turned_from, turned}
+use Rattle.single.proofs.Turns.{turned_low}
 
 -- the form's bytes, as the request writes them: F0 43 0n 00 01 1B
-pub single-header : singleForm.header
-    ≡ fixed 0xF0 ∷ fixed 0x43 ∷ channelRow ∷ fixed 0x00 ∷ fixed 0x01 ∷ fixed 0x1B ∷ []
-unfolding singleForm yamahaForm
-single-header = refl
+pub single_header : single_form.header
+    ≡ fixed 0xF0 ∷ fixed 0x43 ∷ channel_row ∷ fixed 0x00 ∷ fixed 0x01 ∷ fixed 0x1B ∷ []
+unfolding single_form yamaha_form
+single_header = refl
 
 -- a dump's order is 0 to 154: no field stands there twice
-pub in_order : map (standIn singleOrder) singleOrder ≡ countFrom 0 155
-unfolding standIn countFrom singleOrder singleNames position operatorPosition envelopePosition scalingPosition
-    lfoPosition envelopeNames scalingNames lfoNames letters sharedNames
+pub in_order : map (stand_in single_order) single_order ≡ count_from 0 155
+unfolding stand_in count_from single_order single_names position operator_position envelope_position scaling_position
+    lfo_position envelope_names scaling_names lfo_names letters shared_names
 in_order = refl
 
 -- the numbers of the fields in layout order, turned by one place, are those in a dump's order
-turned-numbers : (g : Place → ℕ) → turned 1 (map g layout) ≡ map g singleOrder
-unfolding turned turnedFrom turnedPlace layout operatorNames envelopeNames scalingNames lfoNames letters sharedNames
-    singleOrder singleNames
-turned-numbers g = refl
+turned_numbers : (g : Place → ℕ) → turned 1 (map g layout) ≡ map g single_order
+unfolding turned turned_from turned_place layout operator_names envelope_names scaling_names lfo_names letters shared_names
+    single_order single_names
+turned_numbers g = refl
 
-pub data-of-numbers : (p : Patch) → turned 1 (numbersOf p) ≡ dataBytes p
-unfolding numbersOf dataBytes
-data-of-numbers p = turned-numbers (number_of p)
+pub data_of_numbers : (p : Patch) → turned 1 (numbers_of p) ≡ data_bytes p
+unfolding numbers_of data_bytes
+data_of_numbers p = turned_numbers (number_of p)
 
 -- data bytes turned by six are the numbers of the patch in them
-pub patch-of-turned : (bytes : List ℕ) → patch_of (turned 6 bytes) ≡ patchIn bytes
-unfolding turned turnedFrom turnedPlace patch_of patchIn patchWith operatorWith envelopeWith scalingWith modulationsWith
-    nameWith standIn singleOrder singleNames position operatorPosition envelopePosition scalingPosition lfoPosition
-    envelopeNames scalingNames lfoNames letters sharedNames
-patch-of-turned bytes = refl
+pub patch_of_turned : (bytes : List ℕ) → patch_of (turned 6 bytes) ≡ patch_in bytes
+unfolding turned turned_from turned_place patch_of patch_in patch_with operator_with envelope_with scaling_with modulations_with
+    name_with stand_in single_order single_names position operator_position envelope_position scaling_position lfo_position
+    envelope_names scaling_names lfo_names letters shared_names
+patch_of_turned bytes = refl
 
 -- the data bytes of the patch in 155 bytes are these
-pub data-of-patch : (bytes : List ℕ) → length bytes ≡ 155 → dataBytes (patchIn bytes) ≡ bytes
-unfolding dataBytes patchIn patchWith operatorWith envelopeWith scalingWith modulationsWith nameWith standIn singleOrder
-    singleNames position operatorPosition envelopePosition scalingPosition lfoPosition envelopeNames scalingNames
-    lfoNames letters sharedNames number_of operatorAt operatorNumber envelopeNumber scalingNumber lfoNumber firsts
-data-of-patch bytes h = listed 0 155 bytes h
+pub data_of_patch : (bytes : List ℕ) → length bytes ≡ 155 → data_bytes (patch_in bytes) ≡ bytes
+unfolding data_bytes patch_in patch_with operator_with envelope_with scaling_with modulations_with name_with stand_in single_order
+    single_names position operator_position envelope_position scaling_position lfo_position envelope_names scaling_names
+    lfo_names letters shared_names number_of operator_at operator_number envelope_number scaling_number lfo_number firsts
+data_of_patch bytes h = listed 0 155 bytes h
 
 -- a patch made of numbers is made of their list in a dump's order
-by-stand : (g : Place → ℕ) → patchIn (map g singleOrder) ≡ patchWith g 63
-unfolding patchIn patchWith operatorWith envelopeWith scalingWith modulationsWith nameWith standIn singleOrder
-    singleNames position operatorPosition envelopePosition scalingPosition lfoPosition envelopeNames scalingNames
-    lfoNames letters sharedNames
-by-stand g = refl
+by_stand : (g : Place → ℕ) → patch_in (map g single_order) ≡ patch_with g 63
+unfolding patch_in patch_with operator_with envelope_with scaling_with modulations_with name_with stand_in single_order
+    single_names position operator_position envelope_position scaling_position lfo_position envelope_names scaling_names
+    lfo_names letters shared_names
+by_stand g = refl
 
 -- the patch in a patch's data bytes is that patch, if all its operators are active
-pub patch-of-data : (p : Patch) → Shaped p → p.active_operators ≡ 63 → patchIn (dataBytes p) ≡ p
-unfolding dataBytes
-patch-of-data p h e = by-stand (number_of p) ∙ ap (patchWith (number_of p)) (sym e) ∙ patch-numbers p h
+pub patch_of_data : (p : Patch) → Shaped p → p.active_operators ≡ 63 → patch_in (data_bytes p) ≡ p
+unfolding data_bytes
+patch_of_data p h e = by_stand (number_of p) ∙ ap (patch_with (number_of p)) (sym e) ∙ patch_numbers p h
 
 -- 155 data bytes, each below 128 in a patch that 6 accepts
-pub length-data : (p : Patch) → length (dataBytes p) ≡ 155
-unfolding dataBytes singleOrder singleNames envelopeNames scalingNames lfoNames letters sharedNames
-length-data p = refl
+pub length_data : (p : Patch) → length (data_bytes p) ≡ 155
+unfolding data_bytes single_order single_names envelope_names scaling_names lfo_names letters shared_names
+length_data p = refl
 
 -- every limit is below 128, so every number of such a patch is
-limits-low : every (λ n. leb (field_of n).largest 127) layout ≡ true
-unfolding every layout operatorNames envelopeNames scalingNames lfoNames letters sharedNames field_of later operatorField
-    envelopeField scalingField lfoField
-limits-low = refl
+limits_low : every (λ n. leb (field_of n).largest 127) layout ≡ true
+unfolding every layout operator_names envelope_names scaling_names lfo_names letters shared_names field_of later operator_field
+    envelope_field scaling_field lfo_field
+limits_low = refl
 
-largest-map : {N : Type 0} (g : N → ℕ) (ns : List N) → Each (λ n. g n ≤ 127) ns → largestOf (map g ns) ≤ 127
-unfolding largestOf
-largest-map g [] es = omega arith
-largest-map g (n ∷ ns) (e, es) = let l = largest-map g ns es in omega arith
+largest_map : {N : Type 0} (g : N → ℕ) (ns : List N) → Each (λ n. g n ≤ 127) ns → largest_of (map g ns) ≤ 127
+unfolding largest_of
+largest_map g [] es = omega arith
+largest_map g (n ∷ ns) (e, es) = let l = largest_map g ns es in omega arith
 
-numbers-low : (p : Patch) → patchFits p ≡ true → largestOf (numbersOf p) ≤ 127
-unfolding patchFits numbersOf
-numbers-low p e =
+numbers_low : (p : Patch) → patch_fits p ≡ true → largest_of (numbers_of p) ≤ 127
+unfolding patch_fits numbers_of
+numbers_low p e =
     let w = ((and-eq-true_iff (within field_of (number_of p) layout) (eqb p.active_operators 63)).0 e).0 in
-    largest-map (number_of p) layout (both-each low layout (each_within field_of (number_of p) layout w)
-    (each (λ n. leb (field_of n).largest 127) layout limits-low))
+    largest_map (number_of p) layout (both_each low layout (each_within field_of (number_of p) layout w)
+    (each (λ n. leb (field_of n).largest 127) layout limits_low))
   where
     low : (n : Place) → number_of p n ≤ (field_of n).largest → leb (field_of n).largest 127 ≡ true → number_of p n ≤ 127
     low n h t = omega (arith, leb-true (field_of n).largest 127 t)
 
-pub data-low : (p : Patch) → patchFits p ≡ true → largestOf (dataBytes p) ≤ 127
-data-low p e = rw (← data-of-numbers p) (turned-low 1 (numbersOf p) (numbers-low p e))
+pub data_low : (p : Patch) → patch_fits p ≡ true → largest_of (data_bytes p) ≤ 127
+data_low p e = rw (← data_of_numbers p) (turned_low 1 (numbers_of p) (numbers_low p e))
 
 -- a patch that is made of numbers has arrays as long as they are declared
-pub made_shaped : (g : Place → ℕ) (a : ℕ) → Shaped (patchWith g a)
-unfolding patchWith operatorWith envelopeWith nameWith operatorAt
+pub made_shaped : (g : Place → ℕ) (a : ℕ) → Shaped (patch_with g a)
+unfolding patch_with operator_with envelope_with name_with operator_at
 made_shaped g a = record {
   operators = refl;
   envelopes = stages;
@@ -113,7 +113,7 @@ made_shaped g a = record {
   letters = refl;
 }
   where
-    stages : (k : ℕ) → k < 6 → ShapedEnvelope (operatorAt (patchWith g a).op k).envelope
+    stages : (k : ℕ) → k < 6 → ShapedEnvelope (operator_at (patch_with g a).op k).envelope
     stages zero h = record { rates = refl; levels = refl }
     stages (suc zero) h = record { rates = refl; levels = refl }
     stages (suc (suc zero)) h = record { rates = refl; levels = refl }

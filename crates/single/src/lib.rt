@@ -5,8 +5,8 @@
 ghost use Rattle.std.specs.Prelude.{◌≡◌, ◌<◌, length};
 ghost use Rattle.dump.specs.Dump.{data_of};
 ghost use Rattle.dump_writer.specs.Written.{written_of};
-ghost use Rattle.single.specs.Single.{singleForm, dataBytes, patchIn, singleFits, read_of};
-ghost use Rattle.single.specs.Single.{refusedWith, writeOf, fromPackedOf, toPackedOf, turnedPlace, turned};
+ghost use Rattle.single.specs.Single.{single_form, data_bytes, patch_in, single_fits, read_of};
+ghost use Rattle.single.specs.Single.{refused_with, write_of, from_packed_of, to_packed_of, turned_place, turned};
 
 use dump::Form;
 use patch::{Patch, largest};
@@ -38,7 +38,7 @@ pub struct Repacked {
 
 // The form of a single-voice dump.
 pub fn single_form() -> Form
-    ensures { result ≡ singleForm }
+    ensures { result ≡ single_form }
 {
     dump::yamaha_form(0x00, 155)
 }
@@ -48,7 +48,7 @@ pub fn single_form() -> Form
 // is taken from.
 fn turned_place(by: usize, i: usize) -> usize
     requires { (by < 7) × (i < 155) }
-    ensures { (result ≡ turnedPlace by i) × (result < 155) }
+    ensures { (result ≡ turned_place by i) × (result < 155) }
 {
     let within = i % 21;
     if i >= 126 {
@@ -77,7 +77,7 @@ fn turned(by: usize, s: &[u8]) -> [u8; 155]
 
 // Whether 6 accepts a patch here.
 fn fits(p: Patch) -> bool
-    ensures { result ≡ singleFits p }
+    ensures { result ≡ single_fits p }
 {
     let m = p.modulations;
     patch_limits::patch_fits(p) & (m.pitch_mod_sensitivity <= largest::LFO_SENSITIVITY)
@@ -86,7 +86,7 @@ fn fits(p: Patch) -> bool
 // The patch of the data in a dump of the right length.
 fn patch_in(dump: &[u8]) -> Patch
     requires { length dump.now ≡ 163 }
-    ensures { result ≡ patchIn (data_of singleForm dump.now) }
+    ensures { result ≡ patch_in (data_of single_form dump.now) }
 {
     let numbers = turned(6, &dump[6..161]);
     patch_numbers::patch_of(&numbers)
@@ -121,7 +121,7 @@ pub fn read(patch: Patch, dump: &[u8]) -> Parsed
 
 // The dump of a patch on a channel.
 fn write_whole(p: Patch, channel: u8) -> [u8; 163]
-    ensures { result ≡ written_of singleForm channel (dataBytes p) }
+    ensures { result ≡ written_of single_form channel (data_bytes p) }
 {
     let numbers = patch_numbers::numbers(p);
     let bytes = turned(1, &numbers);
@@ -132,7 +132,7 @@ fn write_whole(p: Patch, channel: u8) -> [u8; 163]
 
 // A refusal: its number, and zeros.
 fn refused(number: u8) -> Written
-    ensures { result ≡ refusedWith number }
+    ensures { result ≡ refused_with number }
 {
     let bytes = [0u8; 163];
     Written { number, bytes }
@@ -140,7 +140,7 @@ fn refused(number: u8) -> Written
 
 // A patch as a dump on a channel.
 pub fn write(patch: Patch, channel: u8) -> Written
-    ensures { result ≡ writeOf patch channel }
+    ensures { result ≡ write_of patch channel }
 {
     if fits(patch) & (channel <= 15) {
         let bytes = write_whole(patch, channel);
@@ -151,7 +151,7 @@ pub fn write(patch: Patch, channel: u8) -> Written
 
 // A packed patch as a dump on a channel.
 pub fn from_packed(packed: &[u8], channel: u8) -> Written
-    ensures { result ≡ fromPackedOf packed.now channel }
+    ensures { result ≡ from_packed_of packed.now channel }
 {
     let read = patch::unpack(Patch::new(), packed);
     if read.number != 0 {
@@ -163,7 +163,7 @@ pub fn from_packed(packed: &[u8], channel: u8) -> Written
 
 // The packed form of the patch in a dump, and the dump's channel.
 pub fn to_packed(dump: &[u8]) -> Repacked
-    ensures { result ≡ toPackedOf dump.now }
+    ensures { result ≡ to_packed_of dump.now }
 {
     let read = read(Patch::new(), dump);
     if read.number != 0 {

@@ -10,19 +10,19 @@ use borrow.Author.Tests.{leb-true, eq-eqb, ne_eqb, le-leb, lt-leb, lt-ltb, le-lt
 use lib.Dec.{leb, ltb}
 use lib.ListN.{length, get_or, take, drop, length-drop, take-append-drop}
 use lib.Seq.{take-length, length-take-le}
-use Rattle.dump.specs.Dump.{dumpNumber, opened_of, data_of, sumByte, largestOf, size_of, sumPlace}
-use Rattle.dump.specs.Dump.{yamahaForm}
-use Rattle.bank.specs.Bank.{bankForm, slot_of, part_of, number_of, validateOf, channelOf}
-use Rattle.dump.proofs.Numbers.{is-10, sound}
+use Rattle.dump.specs.Dump.{dump_number, opened_of, data_of, sum_byte, largest_of, size_of, sum_place}
+use Rattle.dump.specs.Dump.{yamaha_form}
+use Rattle.bank.specs.Bank.{bank_form, slot_of, part_of, number_of, validate_of, channel_of}
+use Rattle.dump.proofs.Numbers.{is_10, sound}
 use Rattle.bank_pieces.specs.declared.Receiver.{Receiver}
 use Rattle.bank_pieces.specs.Pieces.{Held, Took, possible, counting, missing, completes, takes, took, take_of}
-use Rattle.bank_pieces.specs.Pieces.{closing, end_of, frameWith, isRight}
-use Rattle.theorem_pieces.specs.Cuts.{Line, begun, told, called, calledAll, giving, given, givenAll}
-use Rattle.theorem_pieces.specs.Cuts.{together, runCount, runsBelow, runsOf, partsBelow, Agrees}
-use Rattle.theorem_pieces.proofs.Frames.{frameFrom, frame_right, frame-channel}
-use Rattle.theorem_pieces.proofs.Sums.{sum_low, sum-right}
-use Rattle.theorem_pieces.proofs.Known.{Known, known-first, sum-behind, sum-none}
-use Rattle.theorem_pieces.proofs.Reports.{reports, known-all, reports-rest, reports-few, reports-whole}
+use Rattle.bank_pieces.specs.Pieces.{closing, end_of, frame_with, is_right}
+use Rattle.theorem_pieces.specs.Cuts.{Line, begun, told, called, called_all, giving, given, given_all}
+use Rattle.theorem_pieces.specs.Cuts.{together, run_count, runs_below, runs_of, parts_below, Agrees}
+use Rattle.theorem_pieces.proofs.Frames.{frame_from, frame_right, frame_channel}
+use Rattle.theorem_pieces.proofs.Sums.{sum_low, sum_right}
+use Rattle.theorem_pieces.proofs.Known.{Known, known_first, sum_behind, sum_none}
+use Rattle.theorem_pieces.proofs.Reports.{reports, known_all, reports_rest, reports_few, reports_whole}
 
 -- A READER THAT PIECES LEFT is possible, so no piece and no end is refused before the end
 module _ (r : Receiver) (going : r.ended ≡ false) where
@@ -54,18 +54,18 @@ module _ (r : Receiver) (going : r.ended ≡ false) where
     either false q f c = wrong f c
 
     -- so with any few bytes
-    few : (xs : List ℕ) → r.count ≡ counting 0 (length xs) → r.frame ≡ frameFrom 0 0 xs → possible r ≡ true
-    unfolding frameFrom frameWith
+    few : (xs : List ℕ) → r.count ≡ counting 0 (length xs) → r.frame ≡ frame_from 0 0 xs → possible r ≡ true
+    unfolding frame_from frame_with
     few [] c f = right f
-    few (a ∷ []) c f = either (isRight 0 a) true f (omega arith)
-    few (a ∷ b ∷ []) c f = either (isRight 1 b) (isRight 0 a) f (omega arith)
+    few (a ∷ []) c f = either (is_right 0 a) true f (omega arith)
+    few (a ∷ b ∷ []) c f = either (is_right 1 b) (is_right 0 a) f (omega arith)
     few (a ∷ b ∷ t ∷ rest) c f = third (omega arith)
 
 -- and with any bytes
-pub known-possible : (xs : List ℕ) (h : Held) → Known xs h → possible h.receiver ≡ true
-known-possible xs h k = elim (dec_le 134 (length xs)) [
+pub known_possible : (xs : List ℕ) (h : Held) → Known xs h → possible h.receiver ≡ true
+known_possible xs h k = elim (dec_le 134 (length xs)) [
   | yes l ↦ late h.receiver k.going (omega arith)
-  | no l ↦ few h.receiver k.going (k.summing ∙ sum-none xs (omega arith)) xs k.counted k.framing
+  | no l ↦ few h.receiver k.going (k.summing ∙ sum_none xs (omega arith)) xs k.counted k.framing
 ]
 
 -- WHAT IS KNOWN OF A LINE: what its bytes tell, and that their full runs are its reports
@@ -74,17 +74,17 @@ held l = record { receiver = l.receiver; patch = l.patch }
 
 pub record Told (l : Line) : Type 0 where
   pub known : Known l.bytes (held l)
-  pub tells : l.reports ≡ runsOf l.bytes
+  pub tells : l.reports ≡ runs_of l.bytes
 
 -- of a fresh one
-begun-told : (patch : List ℕ) → length patch ≡ 128 → Told (begun patch)
-unfolding runsOf runCount runsBelow
-begun-told patch w = record { known = known-first patch w; tells = refl }
+begun_told : (patch : List ℕ) → length patch ≡ 128 → Told (begun patch)
+unfolding runs_of run_count runs_below
+begun_told patch w = record { known = known_first patch w; tells = refl }
 
 -- A CALL takes all bytes, or one at least
-takes-some : (c n : ℕ) → (takes c n ≡ n → ⊥) → (0 < takes c n) × (0 < n)
+takes_some : (c n : ℕ) → (takes c n ≡ n → ⊥) → (0 < takes c n) × (0 < n)
 unfolding takes completes missing
-takes-some c n = at (ltb c 4102) (leb (missing c) n) refl
+takes_some c n = at (ltb c 4102) (leb (missing c) n) refl
   where
     at : (p q : Bool) → leb (missing c) n ≡ q → (cond (p && q) (missing c) n ≡ n → ⊥)
         → (0 < cond (p && q) (missing c) n) × (0 < n)
@@ -104,17 +104,17 @@ module _ (l : Line) (piece : List ℕ) where
   taken = answer.taken.taken
 
   -- it reports what its bytes report one by one
-  tells-so : told (took l.receiver piece l.patch) ≡ reports (held l) (take (takes count (length piece)) piece)
+  tells_so : told (took l.receiver piece l.patch) ≡ reports (held l) (take (takes count (length piece)) piece)
   unfolding told took takes completes
-  tells-so = elim (dec_lt count 4102) [
-    | no e ↦ rw (le-ltb count 4102 (omega arith)) (sym (reports-rest (held l) _ (omega arith)))
+  tells_so = elim (dec_lt count 4102) [
+    | no e ↦ rw (le-ltb count 4102 (omega arith)) (sym (reports_rest (held l) _ (omega arith)))
     | yes e ↦ elim (dec_le (missing count) (length piece)) [
       | yes m ↦
           rw (lt-ltb count 4102 e, le-leb (missing count) (length piece) m)
-          (sym (reports-whole (held l) (take (missing count) piece) e (length-take-le (missing count) piece m)))
+          (sym (reports_whole (held l) (take (missing count) piece) e (length-take-le (missing count) piece m)))
       | no m ↦
           rw (lt-ltb count 4102 e, lt-leb (missing count) (length piece) (omega arith), take-length piece)
-          (sym (reports-few (held l) piece e (omega arith)))
+          (sym (reports_few (held l) piece e (omega arith)))
     ]
   ]
 
@@ -122,59 +122,59 @@ module _ (l : Line) (piece : List ℕ) where
     -- it is not refused
     accepted : answer ≡ took l.receiver piece l.patch
     unfolding take_of
-    accepted = rw (known-possible l.bytes (held l) t.known)
+    accepted = rw (known_possible l.bytes (held l) t.known)
 
     -- it takes as many bytes as it says
-    pub takes-is : taken ≡ takes count (length piece)
+    pub takes_is : taken ≡ takes count (length piece)
     unfolding took
-    takes-is = ap (λ (k : Took). k.taken.taken) accepted
+    takes_is = ap (λ (k : Took). k.taken.taken) accepted
 
     -- and afterwards as much is known
-    pub called-told : Told (called l piece)
+    pub called_told : Told (called l piece)
     unfolding called took
-    called-told =
-        let next = known-all l.bytes (held l) (take (takes count (length piece)) piece) t.known in
-        rw accepted (record { known = next.0; tells = rw (t.tells, tells-so) next.1 })
+    called_told =
+        let next = known_all l.bytes (held l) (take (takes count (length piece)) piece) t.known in
+        rw accepted (record { known = next.0; tells = rw (t.tells, tells_so) next.1 })
 
     -- what is left is shorter
-    left-shorter : (turns : ℕ) → length piece < suc turns → (taken ≡ length piece → ⊥)
+    left_shorter : (turns : ℕ) → length piece < suc turns → (taken ≡ length piece → ⊥)
         → length (drop taken piece) < turns
-    left-shorter turns h d =
-        let some = takes-some count (length piece) (λ e. d (takes-is ∙ e)) in
-        rw (length-drop taken piece, takes-is) (omega arith)
+    left_shorter turns h d =
+        let some = takes_some count (length piece) (λ e. d (takes_is ∙ e)) in
+        rw (length-drop taken piece, takes_is) (omega arith)
 
 -- as after any calls
-calls-told : (l : Line) (pieces : List (List ℕ)) → Told l → Told (calledAll l pieces)
-unfolding calledAll
-calls-told l [] t = t
-calls-told l (piece ∷ pieces) t = calls-told (called l piece) pieces (called-told l piece t)
+calls_told : (l : Line) (pieces : List (List ℕ)) → Told l → Told (called_all l pieces)
+unfolding called_all
+calls_told l [] t = t
+calls_told l (piece ∷ pieces) t = calls_told (called l piece) pieces (called_told l piece t)
 
 -- A PIECE whose rest is given again is taken whole
-giving-told : (turns : ℕ) (l : Line) (piece : List ℕ) → Told l → length piece < turns
+giving_told : (turns : ℕ) (l : Line) (piece : List ℕ) → Told l → length piece < turns
     → Told (giving turns l piece) × ((giving turns l piece).bytes ≡ l.bytes ++ piece)
 unfolding giving called
-giving-told zero l piece t h = absurd (omega arith)
-giving-told (suc turns) l piece t h = elim (ℕ_discrete (taken l piece) (length piece)) [
-  | yes e ↦ rw (eq-eqb (taken l piece) (length piece) e) (called-told l piece t, rw (e, take-length))
+giving_told zero l piece t h = absurd (omega arith)
+giving_told (suc turns) l piece t h = elim (ℕ_discrete (taken l piece) (length piece)) [
+  | yes e ↦ rw (eq-eqb (taken l piece) (length piece) e) (called_told l piece t, rw (e, take-length))
   | no d ↦
       let rest = drop (taken l piece) piece in
-      let next = giving-told turns (called l piece) rest (called-told l piece t) (left-shorter l piece t turns h d) in
+      let next = giving_told turns (called l piece) rest (called_told l piece t) (left_shorter l piece t turns h d) in
       rw (ne_eqb (taken l piece) (length piece) d) (next.0, next.1 ∙ simp (append_assoc, take-append-drop))
 ]
 
 -- and so is a list of them
-given-told : (l : Line) (pieces : List (List ℕ)) → Told l
-    → Told (givenAll l pieces) × ((givenAll l pieces).bytes ≡ l.bytes ++ together pieces)
-unfolding givenAll together given
-given-told l [] t = (t, sym (append-nil l.bytes))
-given-told l (piece ∷ pieces) t =
-    let one = giving-told (suc (length piece)) l piece t (omega arith) in
-    let next = given-told (giving (suc (length piece)) l piece) pieces one.0 in
+given_told : (l : Line) (pieces : List (List ℕ)) → Told l
+    → Told (given_all l pieces) × ((given_all l pieces).bytes ≡ l.bytes ++ together pieces)
+unfolding given_all together given
+given_told l [] t = (t, sym (append-nil l.bytes))
+given_told l (piece ∷ pieces) t =
+    let one = giving_told (suc (length piece)) l piece t (omega arith) in
+    let next = given_told (giving (suc (length piece)) l piece) pieces one.0 in
     (next.0, next.1 ∙ rw one.1 (append_assoc l.bytes piece (together pieces)))
 
 -- THE CLOSING ANSWER is that of the reader of whole banks
-size_is : size_of bankForm ≡ 4104
-unfolding size_of sumPlace bankForm yamahaForm
+size_is : size_of bank_form ≡ 4104
+unfolding size_of sum_place bank_form yamaha_form
 size_is = refl
 
 module _ (xs : List ℕ) (h : Held) (k : Known xs h) where
@@ -188,137 +188,137 @@ module _ (xs : List ℕ) (h : Held) (k : Known xs h) where
   sum = get_or xs 4102 0
 
   -- of as many bytes as a bank has, both numbers by the same tests
-  closing-whole : length xs ≡ 4104 → closing r ≡ validateOf xs
-  unfolding closing validateOf dumpNumber data_of sumByte size_of sumPlace bankForm yamahaForm
-  closing-whole e =
+  closing_whole : length xs ≡ 4104 → closing r ≡ validate_of xs
+  unfolding closing validate_of dump_number data_of sum_byte size_of sum_place bank_form yamaha_form
+  closing_whole e =
       rw (
         eq-eqb r.count 4104 (omega arith),
         eq-eqb (length xs) 4104 e,
         k.framing,
         frame_right xs e,
         k.summing,
-        sum-behind xs (omega arith),
+        sum_behind xs (omega arith),
         sum_low bytes sum,
       )
-      (elim (dec_le (largestOf bytes) 127) [
-        | yes m ↦ rw (sum-right bytes sum m)
-        | no m ↦ rw (lt-leb (largestOf bytes) 127 (omega arith))
+      (elim (dec_le (largest_of bytes) 127) [
+        | yes m ↦ rw (sum_right bytes sum m)
+        | no m ↦ rw (lt-leb (largest_of bytes) 127 (omega arith))
       ])
 
   -- any other length is 10
-  closing-short : (length xs ≡ 4104 → ⊥) → closing r ≡ validateOf xs
-  unfolding closing validateOf
-  closing-short d =
-      rw (ne_eqb r.count 4104 (λ e. d (omega arith))) (is-10 bankForm xs (λ e. d (e ∙ size_is)))
+  closing_short : (length xs ≡ 4104 → ⊥) → closing r ≡ validate_of xs
+  unfolding closing validate_of
+  closing_short d =
+      rw (ne_eqb r.count 4104 (λ e. d (omega arith))) (is_10 bank_form xs (λ e. d (e ∙ size_is)))
 
   -- so of any bytes
-  pub known-closing : closing r ≡ validateOf xs
-  known-closing = elim (ℕ_discrete (length xs) 4104) [ yes e ↦ closing-whole e | no d ↦ closing-short d ]
+  pub known_closing : closing r ≡ validate_of xs
+  known_closing = elim (ℕ_discrete (length xs) 4104) [ yes e ↦ closing_whole e | no d ↦ closing_short d ]
 
   -- the end gives the number of the whole bank
-  pub known-number : (end_of r).number ≡ validateOf xs
+  pub known_number : (end_of r).number ≡ validate_of xs
   unfolding end_of
-  known-number = rw (known-possible xs h k) known-closing
+  known_number = rw (known_possible xs h k) known_closing
 
   -- and its channel
-  pub known-channel : (end_of r).channel ≡ (channelOf xs).channel
-  unfolding end_of channelOf opened_of validateOf
-  known-channel =
-      rw (known-possible xs h k, known-closing)
-      (elim (ℕ_discrete (dumpNumber bankForm xs) 0) [
+  pub known_channel : (end_of r).channel ≡ (channel_of xs).channel
+  unfolding end_of channel_of opened_of validate_of
+  known_channel =
+      rw (known_possible xs h k, known_closing)
+      (elim (ℕ_discrete (dump_number bank_form xs) 0) [
         | yes z ↦
-            let s = sound bankForm xs z in
-            rw (eq-eqb (dumpNumber bankForm xs) 0 z) (k.framing ∙ frame-channel xs (s.long ∙ size_is) s.right)
-        | no d ↦ rw (ne_eqb (dumpNumber bankForm xs) 0 d)
+            let s = sound bank_form xs z in
+            rw (eq-eqb (dump_number bank_form xs) 0 z) (k.framing ∙ frame_channel xs (s.long ∙ size_is) s.right)
+        | no d ↦ rw (ne_eqb (dump_number bank_form xs) 0 d)
       ])
 
 -- A LINE of which so much is known agrees with its bytes
-told-agrees : (l : Line) → Told l → Agrees l l.bytes
-told-agrees l t = record {
+told_agrees : (l : Line) → Told l → Agrees l l.bytes
+told_agrees l t = record {
   reported = t.tells;
-  number = known-number l.bytes (held l) t.known;
-  channel = known-channel l.bytes (held l) t.known;
+  number = known_number l.bytes (held l) t.known;
+  channel = known_channel l.bytes (held l) t.known;
 }
 
 -- ANY CALLS, whose rests are given again or not: the line agrees with the bytes that were taken
-pub any-calls : (patch : List ℕ) → length patch ≡ 128 → (pieces : List (List ℕ))
-    → Agrees (calledAll (begun patch) pieces) (calledAll (begun patch) pieces).bytes
-any-calls patch w pieces =
-    told-agrees (calledAll (begun patch) pieces) (calls-told (begun patch) pieces (begun-told patch w))
+pub any_calls : (patch : List ℕ) → length patch ≡ 128 → (pieces : List (List ℕ))
+    → Agrees (called_all (begun patch) pieces) (called_all (begun patch) pieces).bytes
+any_calls patch w pieces =
+    told_agrees (called_all (begun patch) pieces) (calls_told (begun patch) pieces (begun_told patch w))
 
 -- THE THEOREM: any list of pieces, empty ones too, with rests given again, agrees with all their bytes together
-pub any-cut : (patch : List ℕ) → length patch ≡ 128 → (pieces : List (List ℕ))
-    → Agrees (givenAll (begun patch) pieces) (together pieces)
-any-cut patch w pieces =
-    let t = given-told (begun patch) pieces (begun-told patch w) in
-    subst (Agrees (givenAll (begun patch) pieces)) t.1 (told-agrees (givenAll (begun patch) pieces) t.0)
+pub any_cut : (patch : List ℕ) → length patch ≡ 128 → (pieces : List (List ℕ))
+    → Agrees (given_all (begun patch) pieces) (together pieces)
+any_cut patch w pieces =
+    let t = given_told (begun patch) pieces (begun_told patch w) in
+    subst (Agrees (given_all (begun patch) pieces)) t.1 (told_agrees (given_all (begun patch) pieces) t.0)
 
 -- so two ways to cut the same bytes agree, whatever stood in the two buffers
-pub cuts-agree : (p q : List ℕ) → length p ≡ 128 → length q ≡ 128 → (one other : List (List ℕ))
+pub cuts_agree : (p q : List ℕ) → length p ≡ 128 → length q ≡ 128 → (one other : List (List ℕ))
     → together one ≡ together other
-    → ((givenAll (begun p) one).reports ≡ (givenAll (begun q) other).reports)
-    × ((end_of (givenAll (begun p) one).receiver).number ≡ (end_of (givenAll (begun q) other).receiver).number)
-    × ((end_of (givenAll (begun p) one).receiver).channel ≡ (end_of (givenAll (begun q) other).receiver).channel)
-cuts-agree p q u v one other e =
-    let a = any-cut p u one in
-    let b = any-cut q v other in (
-      a.reported ∙ ap runsOf e ∙ sym b.reported,
-      a.number ∙ ap validateOf e ∙ sym b.number,
-      a.channel ∙ ap (λ (bs : List ℕ). (channelOf bs).channel) e ∙ sym b.channel,
+    → ((given_all (begun p) one).reports ≡ (given_all (begun q) other).reports)
+    × ((end_of (given_all (begun p) one).receiver).number ≡ (end_of (given_all (begun q) other).receiver).number)
+    × ((end_of (given_all (begun p) one).receiver).channel ≡ (end_of (given_all (begun q) other).receiver).channel)
+cuts_agree p q u v one other e =
+    let a = any_cut p u one in
+    let b = any_cut q v other in (
+      a.reported ∙ ap runs_of e ∙ sym b.reported,
+      a.number ∙ ap validate_of e ∙ sym b.number,
+      a.channel ∙ ap (λ (bs : List ℕ). (channel_of bs).channel) e ∙ sym b.channel,
     )
 
 -- IN A SOUND DUMP the runs are the bank's own parts
-own-part : (xs : List ℕ) (n : ℕ) → validateOf xs ≡ 0 → n ≤ 31 → slot_of xs n ≡ part_of xs n
+own_part : (xs : List ℕ) (n : ℕ) → validate_of xs ≡ 0 → n ≤ 31 → slot_of xs n ≡ part_of xs n
 unfolding part_of number_of
-own-part xs n z l = rw (le-leb n 31 l, z)
+own_part xs n z l = rw (le-leb n 31 l, z)
 
 -- one after the other
-own-parts : (xs : List ℕ) (n : ℕ) → validateOf xs ≡ 0 → n ≤ 32 → runsBelow xs n ≡ partsBelow xs n
-unfolding runsBelow partsBelow
-own-parts xs zero z l = refl
-own-parts xs (suc n) z l =
-    rw (own-parts xs n z (omega arith), own-part xs n z (omega arith))
+own_parts : (xs : List ℕ) (n : ℕ) → validate_of xs ≡ 0 → n ≤ 32 → runs_below xs n ≡ parts_below xs n
+unfolding runs_below parts_below
+own_parts xs zero z l = refl
+own_parts xs (suc n) z l =
+    rw (own_parts xs n z (omega arith), own_part xs n z (omega arith))
 
 -- and there are 32
-whole-runs : (xs : List ℕ) → length xs ≡ 4104 → runsOf xs ≡ runsBelow xs 32
-unfolding runsOf runCount
-whole-runs xs e = rw e
+whole_runs : (xs : List ℕ) → length xs ≡ 4104 → runs_of xs ≡ runs_below xs 32
+unfolding runs_of run_count
+whole_runs xs e = rw e
 
 -- so the reports are those parts
-pub sound-parts : (patch : List ℕ) → length patch ≡ 128 → (pieces : List (List ℕ)) → validateOf (together pieces) ≡ 0
-    → (givenAll (begun patch) pieces).reports ≡ partsBelow (together pieces) 32
-unfolding validateOf
-sound-parts patch w pieces z =
-    (any-cut patch w pieces).reported
-    ∙ whole-runs (together pieces) ((sound bankForm (together pieces) z).long ∙ size_is)
-    ∙ own-parts (together pieces) 32 z (omega arith)
+pub sound_parts : (patch : List ℕ) → length patch ≡ 128 → (pieces : List (List ℕ)) → validate_of (together pieces) ≡ 0
+    → (given_all (begun patch) pieces).reports ≡ parts_below (together pieces) 32
+unfolding validate_of
+sound_parts patch w pieces z =
+    (any_cut patch w pieces).reported
+    ∙ whole_runs (together pieces) ((sound bank_form (together pieces) z).long ∙ size_is)
+    ∙ own_parts (together pieces) 32 z (omega arith)
 
 -- A FINISHED READER stays as it is: it answers every piece by 9
-pub ended-piece : (r : Receiver) (piece patch : List ℕ) → r.ended ≡ true
+pub ended_piece : (r : Receiver) (piece patch : List ℕ) → r.ended ≡ true
     → take_of r piece patch
     ≡ record { taken = record { number = 9; receiver = r; taken = 0; complete = false; slot = 0 }; patch = patch }
 unfolding take_of possible
-ended-piece r piece patch e = rw e
+ended_piece r piece patch e = rw e
 
 -- and every further end
-pub ended-again : (r : Receiver) → r.ended ≡ true → end_of r ≡ record { number = 9; receiver = r; channel = 0 }
+pub ended_again : (r : Receiver) → r.ended ≡ true → end_of r ≡ record { number = 9; receiver = r; channel = 0 }
 unfolding end_of possible
-ended-again r e = rw e
+ended_again r e = rw e
 
 -- the end of a reader that has not ended ends it, whatever the number
-pub end-ends : (r : Receiver) → possible r ≡ true → (end_of r).receiver.ended ≡ true
+pub end_ends : (r : Receiver) → possible r ≡ true → (end_of r).receiver.ended ≡ true
 unfolding end_of
-end-ends r e = rw e
+end_ends r e = rw e
 
 -- so no pieces after the end change the line
-ended-call : (l : Line) (piece : List ℕ) → l.receiver.ended ≡ true → called l piece ≡ l
+ended_call : (l : Line) (piece : List ℕ) → l.receiver.ended ≡ true → called l piece ≡ l
 unfolding called told
-ended-call l piece e =
-    rw (ended-piece l.receiver piece l.patch e, append-nil l.reports, append-nil l.bytes)
+ended_call l piece e =
+    rw (ended_piece l.receiver piece l.patch e, append-nil l.reports, append-nil l.bytes)
 
 -- however many they are
-pub ended-stays : (l : Line) (pieces : List (List ℕ)) → l.receiver.ended ≡ true → calledAll l pieces ≡ l
-unfolding calledAll
-ended-stays l [] e = refl
-ended-stays l (piece ∷ pieces) e =
-    rw (ended-call l piece e) (ended-stays l pieces e)
+pub ended_stays : (l : Line) (pieces : List (List ℕ)) → l.receiver.ended ≡ true → called_all l pieces ≡ l
+unfolding called_all
+ended_stays l [] e = refl
+ended_stays l (piece ∷ pieces) e =
+    rw (ended_call l piece e) (ended_stays l pieces e)

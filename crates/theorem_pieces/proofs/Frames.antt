@@ -9,28 +9,28 @@ use borrow.Author.Tests.{ne_eqb, le-leb, le-ltb}
 use lib.Dec.{eqb, leb}
 use lib.ListN.{length, get_or, drop, drop_of_length-le}
 use lib.Seq.{drop-cons}
-use Rattle.dump.specs.Dump.{in_row, inRows, framed, sumPlace, channelByte, yamahaForm}
-use Rattle.bank.specs.Bank.{bankForm}
-use Rattle.bank_pieces.specs.Pieces.{isRight, frameWith}
+use Rattle.dump.specs.Dump.{in_row, in_rows, framed, sum_place, channel_byte, yamaha_form}
+use Rattle.bank.specs.Bank.{bank_form}
+use Rattle.bank_pieces.specs.Pieces.{is_right, frame_with}
 
 -- what bytes from a place on leave of the frame
-unfoldable pub frameFrom : ℕ → ℕ → List ℕ → ℕ
-frameFrom k f [] = f
-frameFrom k f (b ∷ bs) = frameFrom (suc k) (frameWith k f b) bs
+unfoldable pub frame_from : ℕ → ℕ → List ℕ → ℕ
+frame_from k f [] = f
+frame_from k f (b ∷ bs) = frame_from (suc k) (frame_with k f b) bs
 
 -- one byte more at the end
-pub frame-snoc : (k f : ℕ) (xs : List ℕ) (b : ℕ)
-    → frameFrom k f (xs ++ (b ∷ [])) ≡ frameWith (k + length xs) (frameFrom k f xs) b
-unfolding frameFrom
-frame-snoc k f [] b = ap (λ (n : ℕ). frameWith n f b) (omega arith)
-frame-snoc k f (x ∷ xs) b =
-    frame-snoc (suc k) (frameWith k f x) xs b
-    ∙ ap (λ (n : ℕ). frameWith n (frameFrom (suc k) (frameWith k f x) xs) b) (omega arith)
+pub frame_snoc : (k f : ℕ) (xs : List ℕ) (b : ℕ)
+    → frame_from k f (xs ++ (b ∷ [])) ≡ frame_with (k + length xs) (frame_from k f xs) b
+unfolding frame_from
+frame_snoc k f [] b = ap (λ (n : ℕ). frame_with n f b) (omega arith)
+frame_snoc k f (x ∷ xs) b =
+    frame_snoc (suc k) (frame_with k f x) xs b
+    ∙ ap (λ (n : ℕ). frame_with n (frame_from (suc k) (frame_with k f x) xs) b) (omega arith)
 
 -- data, the checksum and what is too much are not the frame's
-pub frame-other : (k f b : ℕ) → 6 ≤ k → (k ≡ 4103 → ⊥) → frameWith k f b ≡ f
-unfolding frameWith isRight
-frame-other k f b l n = rw (ne_eqb k 2 (λ e. omega arith), le-ltb k 6 l, ne_eqb k 4103 n)
+pub frame_other : (k f b : ℕ) → 6 ≤ k → (k ≡ 4103 → ⊥) → frame_with k f b ≡ f
+unfolding frame_with is_right
+frame_other k f b l n = rw (ne_eqb k 2 (λ e. omega arith), le-ltb k 6 l, ne_eqb k 4103 n)
 
 -- THE TESTS of the frame: a wrong byte leaves 255, and the third byte stays
 abbrev keep : Bool → ℕ → ℕ
@@ -52,62 +52,62 @@ all_right false true t true true true true = refl
 all_right true true t true true true true = simp (le-leb 0 t (omega arith), and-true)
 
 -- and then it is the third byte
-third-kept : (a b : Bool) (t : ℕ) (c d e l : Bool) → leb (kept a b t c d e l) 15 ≡ true → kept a b t c d e l ≡ t
-third-kept a b t c d e false h = absurd (false≢true h)
-third-kept a b t c d false true h = absurd (false≢true h)
-third-kept a b t c false true true h = absurd (false≢true h)
-third-kept a b t false true true true h = absurd (false≢true h)
-third-kept a false t true true true true h = absurd (false≢true h)
-third-kept false true t true true true true h = absurd (false≢true h)
-third-kept true true t true true true true h = refl
+third_kept : (a b : Bool) (t : ℕ) (c d e l : Bool) → leb (kept a b t c d e l) 15 ≡ true → kept a b t c d e l ≡ t
+third_kept a b t c d e false h = absurd (false≢true h)
+third_kept a b t c d false true h = absurd (false≢true h)
+third_kept a b t c false true true h = absurd (false≢true h)
+third_kept a b t false true true true h = absurd (false≢true h)
+third_kept a false t true true true true h = absurd (false≢true h)
+third_kept false true t true true true true h = absurd (false≢true h)
+third_kept true true t true true true true h = refl
 
 -- THE FRAME of a dump as long as a bank
 module _ (dump : List ℕ) (long : length dump ≡ 4104) where
   -- the next byte
-  frame-next : (k f : ℕ) → k < 4104
-      → frameFrom k f (drop k dump) ≡ frameFrom (suc k) (frameWith k f (get_or dump k 0)) (drop (suc k) dump)
-  unfolding frameFrom
-  frame-next k f l = rw (drop-cons dump k 0 (omega arith))
+  frame_next : (k f : ℕ) → k < 4104
+      → frame_from k f (drop k dump) ≡ frame_from (suc k) (frame_with k f (get_or dump k 0)) (drop (suc k) dump)
+  unfolding frame_from
+  frame_next k f l = rw (drop-cons dump k 0 (omega arith))
 
   -- behind the sixth byte only the last one counts
-  frame-rest : (n k f : ℕ) → 6 ≤ k → k + n ≡ 4103
-      → frameFrom k f (drop k dump) ≡ frameWith 4103 f (get_or dump 4103 0)
-  unfolding frameFrom
-  frame-rest zero k f l e =
+  frame_rest : (n k f : ℕ) → 6 ≤ k → k + n ≡ 4103
+      → frame_from k f (drop k dump) ≡ frame_with 4103 f (get_or dump 4103 0)
+  unfolding frame_from
+  frame_rest zero k f l e =
       let last : k ≡ 4103 = omega arith in
-      rw (last, frame-next 4103 f (omega arith), drop_of_length-le dump {i = 4104} (omega arith))
-  frame-rest (suc n) k f l e =
-      rw (frame-next k f (omega arith), frame-other k f (get_or dump k 0) l (λ q. omega arith))
-      (frame-rest n (suc k) f (omega arith) (omega arith))
+      rw (last, frame_next 4103 f (omega arith), drop_of_length-le dump {i = 4104} (omega arith))
+  frame_rest (suc n) k f l e =
+      rw (frame_next k f (omega arith), frame_other k f (get_or dump k 0) l (λ q. omega arith))
+      (frame_rest n (suc k) f (omega arith) (omega arith))
 
   -- so the tests of seven bytes are all of it
   abbrev row : ℕ → Bool
-  row k = in_row (get_or bankForm.header k (record { from = 0; to = 0 })) (get_or dump k 0)
+  row k = in_row (get_or bank_form.header k (record { from = 0; to = 0 })) (get_or dump k 0)
 
   abbrev last : Bool
-  last = in_row bankForm.last (get_or dump 4103 0)
+  last = in_row bank_form.last (get_or dump 4103 0)
 
   abbrev left : ℕ
   left = kept (row 0) (row 1) (get_or dump 2 0) (row 3) (row 4) (row 5) last
 
   -- what is kept of the dump is what its own tests leave
-  frame_is : frameFrom 0 0 dump ≡ left
-  unfolding frameWith isRight
+  frame_is : frame_from 0 0 dump ≡ left
+  unfolding frame_with is_right
   frame_is =
-      frame-next 0 _ (omega arith) ∙ frame-next 1 _ (omega arith) ∙ frame-next 2 _ (omega arith)
-      ∙ frame-next 3 _ (omega arith) ∙ frame-next 4 _ (omega arith) ∙ frame-next 5 _ (omega arith)
-      ∙ frame-rest 4097 6 _ (omega arith) refl
+      frame_next 0 _ (omega arith) ∙ frame_next 1 _ (omega arith) ∙ frame_next 2 _ (omega arith)
+      ∙ frame_next 3 _ (omega arith) ∙ frame_next 4 _ (omega arith) ∙ frame_next 5 _ (omega arith)
+      ∙ frame_rest 4097 6 _ (omega arith) refl
 
   -- and the frame is right by the same tests
-  left-right : leb left 15 ≡ framed bankForm dump
-  unfolding framed inRows bankForm yamahaForm sumPlace in_row
-  left-right = all_right (row 0) (row 1) (get_or dump 2 0) (row 3) (row 4) (row 5) last
+  left_right : leb left 15 ≡ framed bank_form dump
+  unfolding framed in_rows bank_form yamaha_form sum_place in_row
+  left_right = all_right (row 0) (row 1) (get_or dump 2 0) (row 3) (row 4) (row 5) last
 
   -- it is at most 15 exactly if the frame is right
-  pub frame_right : leb (frameFrom 0 0 dump) 15 ≡ framed bankForm dump
-  frame_right = rw frame_is left-right
+  pub frame_right : leb (frame_from 0 0 dump) 15 ≡ framed bank_form dump
+  frame_right = rw frame_is left_right
 
   -- and then the channel
-  pub frame-channel : framed bankForm dump ≡ true → frameFrom 0 0 dump ≡ channelByte dump
-  unfolding channelByte
-  frame-channel h = frame_is ∙ third-kept (row 0) (row 1) (get_or dump 2 0) (row 3) (row 4) (row 5) last (left-right ∙ h)
+  pub frame_channel : framed bank_form dump ≡ true → frame_from 0 0 dump ≡ channel_byte dump
+  unfolding channel_byte
+  frame_channel h = frame_is ∙ third_kept (row 0) (row 1) (get_or dump 2 0) (row 3) (row 4) (row 5) last (left_right ∙ h)

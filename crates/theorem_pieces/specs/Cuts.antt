@@ -1,7 +1,7 @@
 -- A bank that comes in a list of pieces, rests given again, and the reports that must come of it. Definitions only, all
 -- to be believed.
 use Rattle.std.specs.Prelude.{◌≡◌, cond, List, [], ◌∷◌, ◌++◌, ℕ, zero, suc, ◌-◌, ◌/◌, min, length, take, drop, eqb}
-use Rattle.bank.specs.Bank.{slot_of, part_of, validateOf, channelOf}
+use Rattle.bank.specs.Bank.{slot_of, part_of, validate_of, channel_of}
 use Rattle.bank_pieces.specs.declared.Receiver.{Receiver}
 use Rattle.bank_pieces.specs.Pieces.{fresh, Took, take_of, end_of}
 
@@ -35,9 +35,9 @@ called l piece = record {
 }
 
 -- any calls, one after the other
-unfoldable pub calledAll : Line → List (List ℕ) → Line
-calledAll l [] = l
-calledAll l (piece ∷ pieces) = calledAll (called l piece) pieces
+unfoldable pub called_all : Line → List (List ℕ) → Line
+called_all l [] = l
+called_all l (piece ∷ pieces) = called_all (called l piece) pieces
 
 -- ONE PIECE: what a call leaves of it is given again, so many turns at most
 unfoldable pub giving : ℕ → Line → List ℕ → Line
@@ -51,33 +51,33 @@ unfoldable pub given : Line → List ℕ → Line
 given l piece = giving (suc (length piece)) l piece
 
 -- A LIST OF PIECES, and all their bytes together
-unfoldable pub givenAll : Line → List (List ℕ) → Line
-givenAll l [] = l
-givenAll l (piece ∷ pieces) = givenAll (given l piece) pieces
+unfoldable pub given_all : Line → List (List ℕ) → Line
+given_all l [] = l
+given_all l (piece ∷ pieces) = given_all (given l piece) pieces
 
 unfoldable pub together : List (List ℕ) → List ℕ
 together [] = []
 together (piece ∷ pieces) = piece ++ together pieces
 
 -- THE FULL RUNS of 128 bytes from the seventh byte on, 32 at most and in order
-unfoldable pub runCount : List ℕ → ℕ
-runCount bytes = min 32 ((length bytes - 6) / 128)
+unfoldable pub run_count : List ℕ → ℕ
+run_count bytes = min 32 ((length bytes - 6) / 128)
 
-unfoldable pub runsBelow : List ℕ → ℕ → List Report
-runsBelow bytes zero = []
-runsBelow bytes (suc n) = runsBelow bytes n ++ (record { slot = n; bytes = slot_of bytes n } ∷ [])
+unfoldable pub runs_below : List ℕ → ℕ → List Report
+runs_below bytes zero = []
+runs_below bytes (suc n) = runs_below bytes n ++ (record { slot = n; bytes = slot_of bytes n } ∷ [])
 
-unfoldable pub runsOf : List ℕ → List Report
-runsOf bytes = runsBelow bytes (runCount bytes)
+unfoldable pub runs_of : List ℕ → List Report
+runs_of bytes = runs_below bytes (run_count bytes)
 
 -- WHAT A LINE MUST COME TO: the reports are the full runs of its bytes, and the end gives the number and the channel
 -- that the reader of whole banks gives
 pub record Agrees (l : Line) (bytes : List ℕ) : Type 0 where
-  pub reported : l.reports ≡ runsOf bytes
-  pub number : (end_of l.receiver).number ≡ validateOf bytes
-  pub channel : (end_of l.receiver).channel ≡ (channelOf bytes).channel
+  pub reported : l.reports ≡ runs_of bytes
+  pub number : (end_of l.receiver).number ≡ validate_of bytes
+  pub channel : (end_of l.receiver).channel ≡ (channel_of bytes).channel
 
 -- a bank's own parts, slot by slot
-unfoldable pub partsBelow : List ℕ → ℕ → List Report
-partsBelow bytes zero = []
-partsBelow bytes (suc n) = partsBelow bytes n ++ (record { slot = n; bytes = part_of bytes n } ∷ [])
+unfoldable pub parts_below : List ℕ → ℕ → List Report
+parts_below bytes zero = []
+parts_below bytes (suc n) = parts_below bytes n ++ (record { slot = n; bytes = part_of bytes n } ∷ [])

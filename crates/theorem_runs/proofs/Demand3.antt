@@ -3,38 +3,38 @@
 use mathlib.Core.Path.{◌≡◌, refl, ap}
 use mathlib.Core.List.{List, [], ◌∷◌, map}
 use Rattle.voice_render.specs.Answers.{Answered}
-use Rattle.voice_render.proofs.Alike.{rendered-alike}
+use Rattle.voice_render.proofs.Alike.{rendered_alike}
 use Rattle.theorem_runs.specs.VoiceCalls as voice
-use Rattle.theorem_runs.specs.Run.{Call, FromVoice, State, Step, withVoice, step_of, run, ending}
+use Rattle.theorem_runs.specs.Run.{Call, FromVoice, State, Step, with_voice, step_of, run, ending}
 use Rattle.theorem_runs.specs.Alike.{Alike, equal, blocks, AllAlike, none, more, heard}
 
 -- ---- a call, and a run
 
 -- a block's answer stored
 abbrev rendered : State → Answered → Step
-rendered s a = record { answer = FromVoice (voice.Renders a); state = withVoice s a.voice }
+rendered s a = record { answer = FromVoice (voice.Renders a); state = with_voice s a.voice }
 
-pub step-alike : (s : State) {c d : Call} → Alike c d → heard (step_of c s) ≡ heard (step_of d s)
-unfolding heard step_of voice.answerTo
-step-alike s (equal call) = refl
-step-alike s (blocks pairs high low p one other l o) =
-    ap (rendered s) (rendered-alike pairs high low s.voice p one other l o)
+pub step_alike : (s : State) {c d : Call} → Alike c d → heard (step_of c s) ≡ heard (step_of d s)
+unfolding heard step_of voice.answer_to
+step_alike s (equal call) = refl
+step_alike s (blocks pairs high low p one other l o) =
+    ap (rendered s) (rendered_alike pairs high low s.voice p one other l o)
 
-state-heard : (a b : Step) → heard a ≡ heard b → a.state ≡ b.state
+state_heard : (a b : Step) → heard a ≡ heard b → a.state ≡ b.state
 unfolding heard
-state-heard a b e = ap (λ (t : Step). t.state) e
+state_heard a b e = ap (λ (t : Step). t.state) e
 
-pub demand-3 : (s : State) (cs ds : List Call) → AllAlike cs ds → map heard (run cs s) ≡ map heard (run ds s)
+pub demand_3 : (s : State) (cs ds : List Call) → AllAlike cs ds → map heard (run cs s) ≡ map heard (run ds s)
 unfolding run
-demand-3 s [] [] none = refl
-demand-3 s (c ∷ cs) (d ∷ ds) (more first rest) =
-    let here = step-alike s first in
-    let there = state-heard (step_of c s) (step_of d s) here in
-    rw (here, there) (ap (λ (l : List Step). heard (step_of d s) ∷ l) (demand-3 (step_of d s).state cs ds rest))
+demand_3 s [] [] none = refl
+demand_3 s (c ∷ cs) (d ∷ ds) (more first rest) =
+    let here = step_alike s first in
+    let there = state_heard (step_of c s) (step_of d s) here in
+    rw (here, there) (ap (λ (l : List Step). heard (step_of d s) ∷ l) (demand_3 (step_of d s).state cs ds rest))
 
 -- and they end in one state
-pub ending-alike : (s : State) (cs ds : List Call) → AllAlike cs ds → ending cs s ≡ ending ds s
+pub ending_alike : (s : State) (cs ds : List Call) → AllAlike cs ds → ending cs s ≡ ending ds s
 unfolding ending
-ending-alike s [] [] none = refl
-ending-alike s (c ∷ cs) (d ∷ ds) (more first rest) =
-    rw (state-heard (step_of c s) (step_of d s) (step-alike s first)) (ending-alike (step_of d s).state cs ds rest)
+ending_alike s [] [] none = refl
+ending_alike s (c ∷ cs) (d ∷ ds) (more first rest) =
+    rw (state_heard (step_of c s) (step_of d s) (step_alike s first)) (ending_alike (step_of d s).state cs ds rest)

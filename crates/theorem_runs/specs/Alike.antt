@@ -2,7 +2,7 @@
 -- Definitions only.
 use Rattle.std.specs.Prelude.{◌≡◌, List, [], ◌∷◌, length, Float}
 use Rattle.voice_render.specs.declared.VoiceParameters.{VoiceParameters}
-use Rattle.voice_render.specs.Heard.{output, heardOf}
+use Rattle.voice_render.specs.Heard.{output, heard_of}
 use Rattle.theorem_runs.specs.VoiceCalls as voice
 use Rattle.theorem_runs.specs.Run.{Call, OfVoice, Answer, FromVoice, FromLfo, Step}
 
@@ -20,17 +20,17 @@ pub data AllAlike : List Call → List Call → Type 0 where
   more : {c d : Call} {cs ds : List Call} → Alike c d → AllAlike cs ds → AllAlike (c ∷ cs) (d ∷ ds)
 
 -- a voice's answer, a block's without the scratch
-abbrev pub heardVoice : voice.Answer → voice.Answer
-heardVoice (voice.Prepares a) = voice.Prepares a
-heardVoice (voice.Loads a) = voice.Loads a
-heardVoice (voice.Tells a) = voice.Tells a
-heardVoice (voice.Readies a) = voice.Readies a
-heardVoice (voice.Renders a) = voice.Renders (heardOf a)
+abbrev pub heard_voice : voice.Answer → voice.Answer
+heard_voice (voice.Prepares a) = voice.Prepares a
+heard_voice (voice.Loads a) = voice.Loads a
+heard_voice (voice.Tells a) = voice.Tells a
+heard_voice (voice.Readies a) = voice.Readies a
+heard_voice (voice.Renders a) = voice.Renders (heard_of a)
 
-abbrev pub heardAnswer : Answer → Answer
-heardAnswer (FromVoice a) = FromVoice (heardVoice a)
-heardAnswer (FromLfo a) = FromLfo a
+abbrev pub heard_answer : Answer → Answer
+heard_answer (FromVoice a) = FromVoice (heard_voice a)
+heard_answer (FromLfo a) = FromLfo a
 
 -- a call's answer, its output and the whole voice and LFO after it
 unfoldable pub heard : Step → Step
-heard t = record { answer = heardAnswer t.answer; state = t.state }
+heard t = record { answer = heard_answer t.answer; state = t.state }

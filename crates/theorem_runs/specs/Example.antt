@@ -2,13 +2,13 @@
 -- plays two samples of a note. Definitions only.
 use Rattle.std.specs.Prelude.{ℕ, true, false, List, [], ◌∷◌, Float}
 use Rattle.numbers.specs.F32.{decimal}
-use Rattle.sine.specs.Pairs.{sinePairs}
-use Rattle.units.specs.Tables.{lutPitchRatioHigh, lutPitchRatioLow}
+use Rattle.sine.specs.Pairs.{sine_pairs}
+use Rattle.units.specs.Tables.{lut_pitch_ratio_high, lut_pitch_ratio_low}
 use Rattle.patch.specs.declared.Envelope.{Envelope}
 use Rattle.patch.specs.declared.Operator.{Operator}
 use Rattle.patch.specs.declared.Patch.{Patch}
-use Rattle.patch.specs.Form.{scalingWith, modulationsWith}
-use Rattle.voice.specs.Voice.{sixOf}
+use Rattle.patch.specs.Form.{scaling_with, modulations_with}
+use Rattle.voice.specs.Voice.{six_of}
 use Rattle.voice_render.specs.declared.VoiceParameters.{VoiceParameters}
 use Rattle.voice_render.specs.Heard.{output}
 use Rattle.theorem_runs.specs.VoiceCalls as voice
@@ -20,10 +20,10 @@ abbrev constant : ℕ → Envelope
 constant level = record { rate = 99 ∷ 99 ∷ 99 ∷ 99 ∷ []; level = level ∷ level ∷ level ∷ level ∷ [] }
 
 -- an operator at the note's frequency
-abbrev plainOperator : ℕ → Operator
-plainOperator level = record {
+abbrev plain_operator : ℕ → Operator
+plain_operator level = record {
   envelope = constant 99;
-  keyboard_scaling = scalingWith (λ n. 0);
+  keyboard_scaling = scaling_with (λ n. 0);
   rate_scaling = 0;
   amp_mod_sensitivity = 0;
   velocity_sensitivity = 0;
@@ -37,20 +37,20 @@ plainOperator level = record {
 -- six of them, with an even pitch
 unfoldable pub patch_of : ℕ → Patch
 patch_of level = record {
-  op = sixOf (plainOperator level);
+  op = six_of (plain_operator level);
   pitch_envelope = constant 50;
   algorithm = 0;
   feedback = 0;
   reset_phase = 0;
-  modulations = modulationsWith (λ n. 0);
+  modulations = modulations_with (λ n. 0);
   transpose = 24;
   name = 32 ∷ 32 ∷ 32 ∷ 32 ∷ 32 ∷ 32 ∷ 32 ∷ 32 ∷ 32 ∷ 32 ∷ [];
   active_operators = 63;
 }
 
 -- note 60 at full velocity
-abbrev keyDown : VoiceParameters
-keyDown = record {
+abbrev key_down : VoiceParameters
+key_down = record {
   sustain = false;
   gate = true;
   note = decimal 60 0;
@@ -66,38 +66,38 @@ abbrev silence : List Float
 silence = let o = decimal 0 0 in o ∷ o ∷ o ∷ o ∷ o ∷ o ∷ o ∷ o ∷ []
 
 -- a block of two samples, by the built-in tables
-unfoldable pub twoSamples : Call
-twoSamples = OfVoice (voice.Render sinePairs lutPitchRatioHigh lutPitchRatioLow keyDown silence)
+unfoldable pub two_samples : Call
+two_samples = OfVoice (voice.Render sine_pairs lut_pitch_ratio_high lut_pitch_ratio_low key_down silence)
 
 -- the calls for a patch whose operators have a level
-unfoldable pub callsFor : ℕ → List Call
-callsFor level =
+unfoldable pub calls_for : ℕ → List Call
+calls_for level =
     Start false 4 (decimal 48000 0)
     ∷ OfVoice (voice.SetPatch (patch_of level) (0x71 ∷ 0x14 ∷ 0x01 ∷ 0x14 ∷ []))
-    ∷ twoSamples
-    ∷ twoSamples
+    ∷ two_samples
+    ∷ two_samples
     ∷ []
 
 -- the run, from a fresh state
-unfoldable pub runFor : ℕ → List Step
-runFor level = run (callsFor level) (fresh 4 (decimal 48000 0) (decimal 48000 0))
+unfoldable pub run_for : ℕ → List Step
+run_for level = run (calls_for level) (fresh 4 (decimal 48000 0) (decimal 48000 0))
 
 -- the numbers of a run
-unfoldable pub numbersOf : List Step → List ℕ
-numbersOf [] = []
-numbersOf (t ∷ ts) = number_of t.answer ∷ numbersOf ts
+unfoldable pub numbers_of : List Step → List ℕ
+numbers_of [] = []
+numbers_of (t ∷ ts) = number_of t.answer ∷ numbers_of ts
 
 -- the output of a call: nothing where it is no block
-abbrev pub outputOf : Answer → List Float
-outputOf (FromVoice (voice.Prepares a)) = []
-outputOf (FromVoice (voice.Loads a)) = []
-outputOf (FromVoice (voice.Tells a)) = []
-outputOf (FromVoice (voice.Readies a)) = []
-outputOf (FromVoice (voice.Renders a)) = output a.block
-outputOf (FromLfo a) = []
+abbrev pub output_of : Answer → List Float
+output_of (FromVoice (voice.Prepares a)) = []
+output_of (FromVoice (voice.Loads a)) = []
+output_of (FromVoice (voice.Tells a)) = []
+output_of (FromVoice (voice.Readies a)) = []
+output_of (FromVoice (voice.Renders a)) = output a.block
+output_of (FromLfo a) = []
 
 -- the output of a run's last call
-unfoldable pub lastOutput : List Step → List Float
-lastOutput [] = []
-lastOutput (t ∷ []) = outputOf t.answer
-lastOutput (t ∷ u ∷ ts) = lastOutput (u ∷ ts)
+unfoldable pub last_output : List Step → List Float
+last_output [] = []
+last_output (t ∷ []) = output_of t.answer
+last_output (t ∷ u ∷ ts) = last_output (u ∷ ts)

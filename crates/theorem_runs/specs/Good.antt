@@ -3,17 +3,17 @@
 use Rattle.std.specs.Prelude.{Bool, true, false, not, ◌&&◌, ◌||◌, List, [], ◌∷◌, ℕ, T, eqb, Float}
 use Rattle.lfo.specs.Calls.{Valid}
 use Rattle.lfo.specs.Answers as lfo
-use Rattle.voice.specs.Answers.{stateFits, initAnswer}
+use Rattle.voice.specs.Answers.{state_fits, init_answer}
 use Rattle.theorem_runs.specs.Run.{Call, Start, OfVoice, StartLfo, OfLfo, number_of, State, Step}
 
 -- the voice is one that 9 accepts, and the LFO is as calls leave a fresh one
 pub record Good (s : State) : Type 0 where
-  pub voice : T (stateFits s.voice)
+  pub voice : T (state_fits s.voice)
   pub lfo : Valid s.lfo
 
 -- what a voice and an LFO start from
 unfoldable pub fresh : ℕ → Float → Float → State
-fresh operators rate lfoRate = record { voice = (initAnswer operators rate).voice; lfo = (lfo.initAnswer lfoRate).lfo }
+fresh operators rate lfoRate = record { voice = (init_answer operators rate).voice; lfo = (lfo.init_answer lfoRate).lfo }
 
 -- ---- a test of every call of a list, and of what every call of a run gave
 
@@ -28,41 +28,41 @@ throughout test (call ∷ calls) (t ∷ ts) = test call t && throughout test cal
 
 -- no refused start's voice or LFO is stored
 unfoldable pub careful : Call → Bool
-careful (Start stores operators rate) = not stores || eqb (initAnswer operators rate).number 0
+careful (Start stores operators rate) = not stores || eqb (init_answer operators rate).number 0
 careful (OfVoice call) = true
-careful (StartLfo stores rate) = not stores || eqb (lfo.initAnswer rate).number 0
+careful (StartLfo stores rate) = not stores || eqb (lfo.init_answer rate).number 0
 careful (OfLfo call) = true
 
-unfoldable pub isNine : Step → Bool
-isNine t = eqb (number_of t.answer) 9
+unfoldable pub is_nine : Step → Bool
+is_nine t = eqb (number_of t.answer) 9
 
-unfoldable pub notNine : Call → Step → Bool
-notNine call t = not (isNine t)
+unfoldable pub not_nine : Call → Step → Bool
+not_nine call t = not (is_nine t)
 
 -- ---- what becomes of a voice, or of an LFO, until its next start
 
 -- a call that is no start of it
-unfoldable pub keepsVoice : Call → Bool
-keepsVoice (Start stores operators rate) = false
-keepsVoice (OfVoice call) = true
-keepsVoice (StartLfo stores rate) = true
-keepsVoice (OfLfo call) = true
+unfoldable pub keeps_voice : Call → Bool
+keeps_voice (Start stores operators rate) = false
+keeps_voice (OfVoice call) = true
+keeps_voice (StartLfo stores rate) = true
+keeps_voice (OfLfo call) = true
 
-unfoldable pub keepsLfo : Call → Bool
-keepsLfo (Start stores operators rate) = true
-keepsLfo (OfVoice call) = true
-keepsLfo (StartLfo stores rate) = false
-keepsLfo (OfLfo call) = true
+unfoldable pub keeps_lfo : Call → Bool
+keeps_lfo (Start stores operators rate) = true
+keeps_lfo (OfVoice call) = true
+keeps_lfo (StartLfo stores rate) = false
+keeps_lfo (OfLfo call) = true
 
 -- where a call is one of its own, it gets a 9
-unfoldable pub voiceNine : Call → Step → Bool
-voiceNine (Start stores operators rate) t = true
-voiceNine (OfVoice call) t = isNine t
-voiceNine (StartLfo stores rate) t = true
-voiceNine (OfLfo call) t = true
+unfoldable pub voice_nine : Call → Step → Bool
+voice_nine (Start stores operators rate) t = true
+voice_nine (OfVoice call) t = is_nine t
+voice_nine (StartLfo stores rate) t = true
+voice_nine (OfLfo call) t = true
 
-unfoldable pub lfoNine : Call → Step → Bool
-lfoNine (Start stores operators rate) t = true
-lfoNine (OfVoice call) t = true
-lfoNine (StartLfo stores rate) t = true
-lfoNine (OfLfo call) t = isNine t
+unfoldable pub lfo_nine : Call → Step → Bool
+lfo_nine (Start stores operators rate) t = true
+lfo_nine (OfVoice call) t = true
+lfo_nine (StartLfo stores rate) t = true
+lfo_nine (OfLfo call) t = is_nine t

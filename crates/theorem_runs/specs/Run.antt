@@ -5,7 +5,7 @@ use Rattle.lfo_inner.specs.declared.Lfo.{Lfo}
 use Rattle.lfo.specs.Answers as lfoAnswers
 use Rattle.lfo.specs.Calls as lfo
 use Rattle.voice.specs.declared.Voice.{Voice}
-use Rattle.voice.specs.Answers.{initAnswer}
+use Rattle.voice.specs.Answers.{init_answer}
 use Rattle.theorem_runs.specs.VoiceCalls as voice
 
 -- a call of an entry, with its arguments. A start says besides whether the host stores what a refusal hands out, or
@@ -35,11 +35,11 @@ pub record Step : Type 0 where
   pub answer : Answer
   pub state : State
 
-abbrev pub withVoice : State → Voice → State
-withVoice s v = record { voice = v; lfo = s.lfo }
+abbrev pub with_voice : State → Voice → State
+with_voice s v = record { voice = v; lfo = s.lfo }
 
-abbrev pub withLfo : State → Lfo → State
-withLfo s l = record { voice = s.voice; lfo = l }
+abbrev pub with_lfo : State → Lfo → State
+with_lfo s l = record { voice = s.voice; lfo = l }
 
 -- what is stored after a start: what it hands out, unless it is refused and the host keeps the old
 abbrev pub stored : {A : Type 0} → Bool → ℕ → A → A → A
@@ -48,19 +48,19 @@ stored stores number new old = cond (stores || eqb number 0) new old
 -- one call
 unfoldable pub step_of : Call → State → Step
 step_of (Start stores operators rate) s =
-    let a = initAnswer operators rate in
+    let a = init_answer operators rate in
     let v = stored stores a.number a.voice s.voice in
-    record { answer = FromVoice (voice.Prepares a); state = withVoice s v }
+    record { answer = FromVoice (voice.Prepares a); state = with_voice s v }
 step_of (OfVoice call) s =
-    let a = voice.answerTo call s.voice in
-    record { answer = FromVoice a; state = withVoice s (voice.voiceAfter s.voice a) }
+    let a = voice.answer_to call s.voice in
+    record { answer = FromVoice a; state = with_voice s (voice.voice_after s.voice a) }
 step_of (StartLfo stores rate) s =
-    let a = lfoAnswers.initAnswer rate in
+    let a = lfoAnswers.init_answer rate in
     let l = stored stores a.number a.lfo s.lfo in
-    record { answer = FromLfo (lfo.Prepares a); state = withLfo s l }
+    record { answer = FromLfo (lfo.Prepares a); state = with_lfo s l }
 step_of (OfLfo call) s =
-    let a = lfo.answerTo call s.lfo in
-    record { answer = FromLfo a; state = withLfo s (lfo.lfoAfter s.lfo a) }
+    let a = lfo.answer_to call s.lfo in
+    record { answer = FromLfo a; state = with_lfo s (lfo.lfo_after s.lfo a) }
 
 -- a list of calls, in order: what each gives, with the state that it leaves
 unfoldable pub run : List Call → State → List Step

@@ -1,16 +1,16 @@
 -- A call of an entry of a voice but its start, as data, with what the entry answers. Definitions only.
 use Rattle.std.specs.Prelude.{ℕ, Bool, false, List, Float}
-use Rattle.units.specs.Tables.{lutPitchRatioHigh, lutPitchRatioLow}
+use Rattle.units.specs.Tables.{lut_pitch_ratio_high, lut_pitch_ratio_low}
 use Rattle.patch.specs.declared.Patch.{Patch}
 use Rattle.voice.specs.declared.Voice.{Voice}
 use Rattle.voice.specs.declared.Prepared.{Prepared}
 use Rattle.voice.specs.declared.Loaded.{Loaded}
 use Rattle.voice.specs.declared.Stored.{Stored}
-use Rattle.voice.specs.Answers.{prepared, notLoaded, noPatch, setPatchAnswer, takePatchAnswer, patchAnswer}
-use Rattle.voice.specs.Answers.{setTransposingAnswer}
+use Rattle.voice.specs.Answers.{prepared, not_loaded, no_patch, set_patch_answer, take_patch_answer, patch_answer}
+use Rattle.voice.specs.Answers.{set_transposing_answer}
 use Rattle.voice_render.specs.declared.Readied.{Readied}
 use Rattle.voice_render.specs.declared.VoiceParameters.{VoiceParameters}
-use Rattle.voice_render.specs.Answers.{readied, setupAnswer, Answered, unsounded, renderAnswer}
+use Rattle.voice_render.specs.Answers.{readied, setup_answer, Answered, unsounded, render_answer}
 
 -- a call with its arguments: a block has the three tables that it is lent or, without `_with`, the built-in ones, and
 -- what its buffer holds before the call
@@ -38,26 +38,26 @@ number_of (Readies a) = a.number
 number_of (Renders a) = a.number
 
 -- the voice that the next call gets: the answer's, or the same as before where it has none
-abbrev pub voiceAfter : Voice → Answer → Voice
-voiceAfter v (Prepares a) = a.voice
-voiceAfter v (Loads a) = a.voice
-voiceAfter v (Tells a) = v
-voiceAfter v (Readies a) = a.voice
-voiceAfter v (Renders a) = a.voice
+abbrev pub voice_after : Voice → Answer → Voice
+voice_after v (Prepares a) = a.voice
+voice_after v (Loads a) = a.voice
+voice_after v (Tells a) = v
+voice_after v (Readies a) = a.voice
+voice_after v (Renders a) = a.voice
 
-unfoldable pub answerTo : Call → Voice → Answer
-answerTo (SetPatch p table) v = Loads (setPatchAnswer v p table)
-answerTo TakePatch v = Prepares (takePatchAnswer v)
-answerTo GetPatch v = Tells (patchAnswer v)
-answerTo (SetTransposing on) v = Prepares (setTransposingAnswer v on)
-answerTo Setup v = Readies (setupAnswer lutPitchRatioHigh lutPitchRatioLow v)
-answerTo (Render pairs high low p block) v = Renders (renderAnswer pairs high low v p block)
+unfoldable pub answer_to : Call → Voice → Answer
+answer_to (SetPatch p table) v = Loads (set_patch_answer v p table)
+answer_to TakePatch v = Prepares (take_patch_answer v)
+answer_to GetPatch v = Tells (patch_answer v)
+answer_to (SetTransposing on) v = Prepares (set_transposing_answer v on)
+answer_to Setup v = Readies (setup_answer lut_pitch_ratio_high lut_pitch_ratio_low v)
+answer_to (Render pairs high low p block) v = Renders (render_answer pairs high low v p block)
 
 -- the refusal 9 of a call: the voice and the buffer as they came
-unfoldable pub refusalOf : Call → Voice → Answer
-refusalOf (SetPatch p table) v = Loads (notLoaded 9 v)
-refusalOf TakePatch v = Prepares (prepared 9 v)
-refusalOf GetPatch v = Tells (noPatch 9)
-refusalOf (SetTransposing on) v = Prepares (prepared 9 v)
-refusalOf Setup v = Readies (readied 9 false v)
-refusalOf (Render pairs high low p block) v = Renders (unsounded 9 v block)
+unfoldable pub refusal_of : Call → Voice → Answer
+refusal_of (SetPatch p table) v = Loads (not_loaded 9 v)
+refusal_of TakePatch v = Prepares (prepared 9 v)
+refusal_of GetPatch v = Tells (no_patch 9)
+refusal_of (SetTransposing on) v = Prepares (prepared 9 v)
+refusal_of Setup v = Readies (readied 9 false v)
+refusal_of (Render pairs high low p block) v = Renders (unsounded 9 v block)

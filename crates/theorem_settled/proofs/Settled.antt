@@ -31,7 +31,7 @@ use Rattle.patch_packer.specs.contracts.pack as patch-packer-pack
 use Rattle.dump.specs.contracts.checksum as dump-checksum
 use Rattle.bank.specs.contracts.validate as bank-validate
 use Rattle.bank.specs.contracts.number as bank-number
-use Rattle.bank.specs.contracts.channel as bank-channel
+use Rattle.bank.specs.contracts.channel as bank_channel
 use Rattle.bank.specs.contracts.Reader.number as bank-reader-number
 use Rattle.bank.specs.contracts.Reader.channel as bank-reader-channel
 use Rattle.bank_pieces.specs.contracts.open as pieces-open
@@ -92,10 +92,10 @@ both 𝓤 φ ψ χ f =
     fact_use 𝓤 ψ (conj_r 𝓤 (fact 𝓤 φ) (fact 𝓤 ψ)) (λ q. fact_i 𝓤 χ (conj 𝓤 (fact 𝓤 φ) (fact 𝓤 ψ)) (f p q)))
 
 -- a promise of a part
-same-part : {M : Type 1} (𝓤 : Ura M) (dump : Bor (List ℕ)) (slot : ℕ) (z y : Bor (List ℕ))
+same_part : {M : Type 1} (𝓤 : Ura M) (dump : Bor (List ℕ)) (slot : ℕ) (z y : Bor (List ℕ))
     → ent 𝓤 (conj 𝓤 (fact 𝓤 (Handed dump slot z)) (fact 𝓤 (Handed dump slot y)))
     (fact 𝓤 ((z.now ≡ y.now) × (z.ref_ptr ≡ y.ref_ptr)))
-same-part 𝓤 dump slot z y =
+same_part 𝓤 dump slot z y =
     both 𝓤 (Handed dump slot z) (Handed dump slot y) ((z.now ≡ y.now) × (z.ref_ptr ≡ y.ref_ptr))
     (λ p q. (p.bytes ∙ sym q.bytes, p.place ∙ sym q.place))
 
@@ -107,259 +107,259 @@ equal 𝓤 answer z y {ws} {vs} e = both 𝓤 (z ≡ answer) (y ≡ answer) ((z 
 module _ {M : Type 1} {𝓤 : Ura M} (𝓛 : Logic 𝓤) (mem : Memory → SProp 𝓤) (run : Routine → Fun 𝓤) where
   -- ---- the conversions
 
-  pub pow-2-fast-settled : Settled 𝓤 pow-2-fast.ended (pow-2-fast.clauses 𝓛 mem run)
-  pow-2-fast-settled κs a g z y ws vs = equal 𝓤 _ z y refl
+  pub pow_2_fast_settled : Settled 𝓤 pow-2-fast.ended (pow-2-fast.clauses 𝓛 mem run)
+  pow_2_fast_settled κs a g z y ws vs = equal 𝓤 _ z y refl
 
-  pub frequency-step-settled : Settled 𝓤 frequency-step.ended (frequency-step.clauses 𝓛 mem run)
-  frequency-step-settled κs a g z y ws vs = equal 𝓤 _ z y refl
+  pub frequency_step_settled : Settled 𝓤 frequency-step.ended (frequency-step.clauses 𝓛 mem run)
+  frequency_step_settled κs a g z y ws vs = equal 𝓤 _ z y refl
 
-  pub level-chart-settled : Settled 𝓤 level-chart.ended (level-chart.clauses 𝓛 mem run)
-  level-chart-settled κs a g z y ws vs = equal 𝓤 _ z y refl
+  pub level_chart_settled : Settled 𝓤 level-chart.ended (level-chart.clauses 𝓛 mem run)
+  level_chart_settled κs a g z y ws vs = equal 𝓤 _ z y refl
 
-  pub operator-level-settled : Settled 𝓤 operator-level.ended (operator-level.clauses 𝓛 mem run)
-  operator-level-settled κs a g z y ws vs = equal 𝓤 _ z y refl
+  pub operator_level_settled : Settled 𝓤 operator-level.ended (operator-level.clauses 𝓛 mem run)
+  operator_level_settled κs a g z y ws vs = equal 𝓤 _ z y refl
 
-  pub pitch-envelope-level-settled : Settled 𝓤 pitch-envelope-level.ended (pitch-envelope-level.clauses 𝓛 mem run)
-  pitch-envelope-level-settled κs a g z y ws vs = equal 𝓤 _ z y refl
+  pub pitch_envelope_level_settled : Settled 𝓤 pitch-envelope-level.ended (pitch-envelope-level.clauses 𝓛 mem run)
+  pitch_envelope_level_settled κs a g z y ws vs = equal 𝓤 _ z y refl
 
-  pub operator-envelope-increment-settled
+  pub operator_envelope_increment_settled
       : Settled 𝓤 operator-envelope-increment.ended (operator-envelope-increment.clauses 𝓛 mem run)
-  operator-envelope-increment-settled κs a g z y ws vs = equal 𝓤 _ z y refl
+  operator_envelope_increment_settled κs a g z y ws vs = equal 𝓤 _ z y refl
 
-  pub pitch-envelope-increment-settled
+  pub pitch_envelope_increment_settled
       : Settled 𝓤 pitch-envelope-increment.ended (pitch-envelope-increment.clauses 𝓛 mem run)
-  pitch-envelope-increment-settled κs a g z y ws vs = equal 𝓤 _ z y refl
+  pitch_envelope_increment_settled κs a g z y ws vs = equal 𝓤 _ z y refl
 
-  pub lfo-frequency-settled : Settled 𝓤 lfo-frequency.ended (lfo-frequency.clauses 𝓛 mem run)
-  lfo-frequency-settled κs a g z y ws vs = equal 𝓤 _ z y refl
+  pub lfo_frequency_settled : Settled 𝓤 lfo-frequency.ended (lfo-frequency.clauses 𝓛 mem run)
+  lfo_frequency_settled κs a g z y ws vs = equal 𝓤 _ z y refl
 
-  pub lfo-delay-settled : Settled 𝓤 lfo-delay.ended (lfo-delay.clauses 𝓛 mem run)
-  lfo-delay-settled κs a g z y ws vs = equal 𝓤 _ z y refl
+  pub lfo_delay_settled : Settled 𝓤 lfo-delay.ended (lfo-delay.clauses 𝓛 mem run)
+  lfo_delay_settled κs a g z y ws vs = equal 𝓤 _ z y refl
 
-  pub normalize-velocity-settled : Settled 𝓤 normalize-velocity.ended (normalize-velocity.clauses 𝓛 mem run)
-  normalize-velocity-settled κs a g z y ws vs = equal 𝓤 _ z y refl
+  pub normalize_velocity_settled : Settled 𝓤 normalize-velocity.ended (normalize-velocity.clauses 𝓛 mem run)
+  normalize_velocity_settled κs a g z y ws vs = equal 𝓤 _ z y refl
 
-  pub rate-scaling-settled : Settled 𝓤 rate-scaling.ended (rate-scaling.clauses 𝓛 mem run)
-  rate-scaling-settled κs a g z y ws vs = equal 𝓤 _ z y refl
+  pub rate_scaling_settled : Settled 𝓤 rate-scaling.ended (rate-scaling.clauses 𝓛 mem run)
+  rate_scaling_settled κs a g z y ws vs = equal 𝓤 _ z y refl
 
-  pub amp-mod-sensitivity-settled : Settled 𝓤 amp-mod-sensitivity.ended (amp-mod-sensitivity.clauses 𝓛 mem run)
-  amp-mod-sensitivity-settled κs a g z y ws vs = equal 𝓤 _ z y refl
+  pub amp_mod_sensitivity_settled : Settled 𝓤 amp-mod-sensitivity.ended (amp-mod-sensitivity.clauses 𝓛 mem run)
+  amp_mod_sensitivity_settled κs a g z y ws vs = equal 𝓤 _ z y refl
 
-  pub pitch-mod-sensitivity-settled
+  pub pitch_mod_sensitivity_settled
       : Settled 𝓤 pitch-mod-sensitivity.ended (pitch-mod-sensitivity.clauses 𝓛 mem run)
-  pitch-mod-sensitivity-settled κs a g z y ws vs = equal 𝓤 _ z y refl
+  pitch_mod_sensitivity_settled κs a g z y ws vs = equal 𝓤 _ z y refl
 
-  pub keyboard-scaling-settled : Settled 𝓤 keyboard-scaling.ended (keyboard-scaling.clauses 𝓛 mem run)
-  keyboard-scaling-settled κs a g z y ws vs = equal 𝓤 _ z y refl
+  pub keyboard_scaling_settled : Settled 𝓤 keyboard-scaling.ended (keyboard-scaling.clauses 𝓛 mem run)
+  keyboard_scaling_settled κs a g z y ws vs = equal 𝓤 _ z y refl
 
-  pub frequency-ratio-settled : Settled 𝓤 frequency-ratio.ended (frequency-ratio.clauses 𝓛 mem run)
-  frequency-ratio-settled κs a g z y ws vs = equal 𝓤 _ z y refl
+  pub frequency_ratio_settled : Settled 𝓤 frequency-ratio.ended (frequency-ratio.clauses 𝓛 mem run)
+  frequency_ratio_settled κs a g z y ws vs = equal 𝓤 _ z y refl
 
   -- ---- patches
 
-  pub patch-unpack-settled : Settled 𝓤 patch-unpack.ended (patch-unpack.clauses 𝓛 mem run)
-  patch-unpack-settled κs a g z y ws vs = equal 𝓤 _ z y refl
+  pub patch_unpack_settled : Settled 𝓤 patch-unpack.ended (patch-unpack.clauses 𝓛 mem run)
+  patch_unpack_settled κs a g z y ws vs = equal 𝓤 _ z y refl
 
-  pub patch-limits-check-settled : Settled 𝓤 patch-limits-check.ended (patch-limits-check.clauses 𝓛 mem run)
-  patch-limits-check-settled κs a g z y ws vs = equal 𝓤 _ z y refl
+  pub patch_limits_check_settled : Settled 𝓤 patch-limits-check.ended (patch-limits-check.clauses 𝓛 mem run)
+  patch_limits_check_settled κs a g z y ws vs = equal 𝓤 _ z y refl
 
-  pub patch-packer-pack-settled : Settled 𝓤 patch-packer-pack.ended (patch-packer-pack.clauses 𝓛 mem run)
-  patch-packer-pack-settled κs a g z y ws vs = equal 𝓤 _ z y refl
+  pub patch_packer_pack_settled : Settled 𝓤 patch-packer-pack.ended (patch-packer-pack.clauses 𝓛 mem run)
+  patch_packer_pack_settled κs a g z y ws vs = equal 𝓤 _ z y refl
 
   -- ---- banks
 
-  pub dump-checksum-settled : Settled 𝓤 dump-checksum.ended (dump-checksum.clauses 𝓛 mem run)
-  dump-checksum-settled κs a g z y ws vs = equal 𝓤 _ z y refl
+  pub dump_checksum_settled : Settled 𝓤 dump-checksum.ended (dump-checksum.clauses 𝓛 mem run)
+  dump_checksum_settled κs a g z y ws vs = equal 𝓤 _ z y refl
 
-  pub bank-validate-settled : Settled 𝓤 bank-validate.ended (bank-validate.clauses 𝓛 mem run)
-  bank-validate-settled κs a g z y ws vs = equal 𝓤 _ z y refl
+  pub bank_validate_settled : Settled 𝓤 bank-validate.ended (bank-validate.clauses 𝓛 mem run)
+  bank_validate_settled κs a g z y ws vs = equal 𝓤 _ z y refl
 
-  pub bank-number-settled : Settled 𝓤 bank-number.ended (bank-number.clauses 𝓛 mem run)
-  bank-number-settled κs a g z y ws vs = equal 𝓤 _ z y refl
+  pub bank_number_settled : Settled 𝓤 bank-number.ended (bank-number.clauses 𝓛 mem run)
+  bank_number_settled κs a g z y ws vs = equal 𝓤 _ z y refl
 
-  pub bank-channel-settled : Settled 𝓤 bank-channel.ended (bank-channel.clauses 𝓛 mem run)
-  bank-channel-settled κs a g z y ws vs = equal 𝓤 _ z y refl
+  pub bank_channel_settled : Settled 𝓤 bank_channel.ended (bank_channel.clauses 𝓛 mem run)
+  bank_channel_settled κs a g z y ws vs = equal 𝓤 _ z y refl
 
-  pub bank-reader-number-settled : Settled 𝓤 bank-reader-number.ended (bank-reader-number.clauses 𝓛 mem run)
-  bank-reader-number-settled κs a g z y ws vs = equal 𝓤 _ z y refl
+  pub bank_reader_number_settled : Settled 𝓤 bank-reader-number.ended (bank-reader-number.clauses 𝓛 mem run)
+  bank_reader_number_settled κs a g z y ws vs = equal 𝓤 _ z y refl
 
-  pub bank-reader-channel-settled : Settled 𝓤 bank-reader-channel.ended (bank-reader-channel.clauses 𝓛 mem run)
-  bank-reader-channel-settled κs a g z y ws vs = equal 𝓤 _ z y refl
+  pub bank_reader_channel_settled : Settled 𝓤 bank-reader-channel.ended (bank-reader-channel.clauses 𝓛 mem run)
+  bank_reader_channel_settled κs a g z y ws vs = equal 𝓤 _ z y refl
 
   -- ---- single-voice dumps
 
-  pub pieces-open-settled : Settled 𝓤 pieces-open.ended (pieces-open.clauses 𝓛 mem run)
-  pieces-open-settled κs a g z y ws vs = equal 𝓤 _ z y refl
+  pub pieces_open_settled : Settled 𝓤 pieces-open.ended (pieces-open.clauses 𝓛 mem run)
+  pieces_open_settled κs a g z y ws vs = equal 𝓤 _ z y refl
 
-  pub pieces-end-settled : Settled 𝓤 Pieces-end.ended (Pieces-end.clauses 𝓛 mem run)
-  pieces-end-settled κs a g z y ws vs = equal 𝓤 _ z y refl
+  pub pieces_end_settled : Settled 𝓤 Pieces-end.ended (Pieces-end.clauses 𝓛 mem run)
+  pieces_end_settled κs a g z y ws vs = equal 𝓤 _ z y refl
 
-  pub single-read-settled : Settled 𝓤 single-read.ended (single-read.clauses 𝓛 mem run)
-  single-read-settled κs a g z y ws vs = equal 𝓤 _ z y refl
+  pub single_read_settled : Settled 𝓤 single-read.ended (single-read.clauses 𝓛 mem run)
+  single_read_settled κs a g z y ws vs = equal 𝓤 _ z y refl
 
-  pub single-write-settled : Settled 𝓤 single-write.ended (single-write.clauses 𝓛 mem run)
-  single-write-settled κs a g z y ws vs = equal 𝓤 _ z y refl
+  pub single_write_settled : Settled 𝓤 single-write.ended (single-write.clauses 𝓛 mem run)
+  single_write_settled κs a g z y ws vs = equal 𝓤 _ z y refl
 
-  pub single-from-packed-settled : Settled 𝓤 single-from-packed.ended (single-from-packed.clauses 𝓛 mem run)
-  single-from-packed-settled κs a g z y ws vs = equal 𝓤 _ z y refl
+  pub single_from_packed_settled : Settled 𝓤 single-from-packed.ended (single-from-packed.clauses 𝓛 mem run)
+  single_from_packed_settled κs a g z y ws vs = equal 𝓤 _ z y refl
 
-  pub single-to-packed-settled : Settled 𝓤 single-to-packed.ended (single-to-packed.clauses 𝓛 mem run)
-  single-to-packed-settled κs a g z y ws vs = equal 𝓤 _ z y refl
+  pub single_to_packed_settled : Settled 𝓤 single-to-packed.ended (single-to-packed.clauses 𝓛 mem run)
+  single_to_packed_settled κs a g z y ws vs = equal 𝓤 _ z y refl
 
   -- ---- rows
 
-  pub algorithms-compile-settled : Settled 𝓤 algorithms-compile.ended (algorithms-compile.clauses 𝓛 mem run)
-  algorithms-compile-settled κs a g z y ws vs = equal 𝓤 _ z y refl
+  pub algorithms_compile_settled : Settled 𝓤 algorithms-compile.ended (algorithms-compile.clauses 𝓛 mem run)
+  algorithms_compile_settled κs a g z y ws vs = equal 𝓤 _ z y refl
 
-  pub algorithms-compile-row-settled
+  pub algorithms_compile_row_settled
       : Settled 𝓤 algorithms-compile-row.ended (algorithms-compile-row.clauses 𝓛 mem run)
-  algorithms-compile-row-settled κs a g z y ws vs = equal 𝓤 _ z y refl
+  algorithms_compile_row_settled κs a g z y ws vs = equal 𝓤 _ z y refl
 
-  pub algorithms-is-modulator-settled
+  pub algorithms_is_modulator_settled
       : Settled 𝓤 algorithms-is-modulator.ended (algorithms-is-modulator.clauses 𝓛 mem run)
-  algorithms-is-modulator-settled κs a g z y ws vs = equal 𝓤 _ z y refl
+  algorithms_is_modulator_settled κs a g z y ws vs = equal 𝓤 _ z y refl
 
   -- ---- envelopes
 
-  pub envelope-init-settled : Settled 𝓤 envelope-init.ended (envelope-init.clauses 𝓛 mem run)
-  envelope-init-settled κs a g z y ws vs = equal 𝓤 _ z y refl
+  pub envelope_init_settled : Settled 𝓤 envelope-init.ended (envelope-init.clauses 𝓛 mem run)
+  envelope_init_settled κs a g z y ws vs = equal 𝓤 _ z y refl
 
-  pub envelope-set-settled : Settled 𝓤 envelope-set.ended (envelope-set.clauses 𝓛 mem run)
-  envelope-set-settled κs a g z y ws vs = equal 𝓤 _ z y refl
+  pub envelope_set_settled : Settled 𝓤 envelope-set.ended (envelope-set.clauses 𝓛 mem run)
+  envelope_set_settled κs a g z y ws vs = equal 𝓤 _ z y refl
 
-  pub envelope-operator-set-settled
+  pub envelope_operator_set_settled
       : Settled 𝓤 envelope-operator-set.ended (envelope-operator-set.clauses 𝓛 mem run)
-  envelope-operator-set-settled κs a g z y ws vs = equal 𝓤 _ z y refl
+  envelope_operator_set_settled κs a g z y ws vs = equal 𝓤 _ z y refl
 
-  pub envelope-pitch-set-settled : Settled 𝓤 envelope-pitch-set.ended (envelope-pitch-set.clauses 𝓛 mem run)
-  envelope-pitch-set-settled κs a g z y ws vs = equal 𝓤 _ z y refl
+  pub envelope_pitch_set_settled : Settled 𝓤 envelope-pitch-set.ended (envelope-pitch-set.clauses 𝓛 mem run)
+  envelope_pitch_set_settled κs a g z y ws vs = equal 𝓤 _ z y refl
 
-  pub envelope-render-settled : Settled 𝓤 envelope-render.ended (envelope-render.clauses 𝓛 mem run)
-  envelope-render-settled κs a g z y ws vs = equal 𝓤 _ z y refl
+  pub envelope_render_settled : Settled 𝓤 envelope-render.ended (envelope-render.clauses 𝓛 mem run)
+  envelope_render_settled κs a g z y ws vs = equal 𝓤 _ z y refl
 
-  pub envelope-render-at-sample-settled
+  pub envelope_render_at_sample_settled
       : Settled 𝓤 envelope-render-at-sample.ended (envelope-render-at-sample.clauses 𝓛 mem run)
-  envelope-render-at-sample-settled κs a g z y ws vs = equal 𝓤 _ z y refl
+  envelope_render_at_sample_settled κs a g z y ws vs = equal 𝓤 _ z y refl
 
-  pub envelope-current-value-settled
+  pub envelope_current_value_settled
       : Settled 𝓤 envelope-current-value.ended (envelope-current-value.clauses 𝓛 mem run)
-  envelope-current-value-settled κs a g z y ws vs = equal 𝓤 _ z y refl
+  envelope_current_value_settled κs a g z y ws vs = equal 𝓤 _ z y refl
 
-  pub envelope-value-settled : Settled 𝓤 envelope-value.ended (envelope-value.clauses 𝓛 mem run)
-  envelope-value-settled κs a g z y ws vs = equal 𝓤 _ z y refl
+  pub envelope_value_settled : Settled 𝓤 envelope-value.ended (envelope-value.clauses 𝓛 mem run)
+  envelope_value_settled κs a g z y ws vs = equal 𝓤 _ z y refl
 
   -- ---- LFO
 
-  pub lfo-init-settled : Settled 𝓤 lfo-init.ended (lfo-init.clauses 𝓛 mem run)
-  lfo-init-settled κs a g z y ws vs = equal 𝓤 _ z y refl
+  pub lfo_init_settled : Settled 𝓤 lfo-init.ended (lfo-init.clauses 𝓛 mem run)
+  lfo_init_settled κs a g z y ws vs = equal 𝓤 _ z y refl
 
-  pub lfo-set-settled : Settled 𝓤 lfo-set.ended (lfo-set.clauses 𝓛 mem run)
-  lfo-set-settled κs a g z y ws vs = equal 𝓤 _ z y refl
+  pub lfo_set_settled : Settled 𝓤 lfo-set.ended (lfo-set.clauses 𝓛 mem run)
+  lfo_set_settled κs a g z y ws vs = equal 𝓤 _ z y refl
 
-  pub lfo-reset-settled : Settled 𝓤 lfo-reset.ended (lfo-reset.clauses 𝓛 mem run)
-  lfo-reset-settled κs a g z y ws vs = equal 𝓤 _ z y refl
+  pub lfo_reset_settled : Settled 𝓤 lfo-reset.ended (lfo-reset.clauses 𝓛 mem run)
+  lfo_reset_settled κs a g z y ws vs = equal 𝓤 _ z y refl
 
-  pub lfo-step-settled : Settled 𝓤 lfo-step.ended (lfo-step.clauses 𝓛 mem run)
-  lfo-step-settled κs a g z y ws vs = equal 𝓤 _ z y refl
+  pub lfo_step_settled : Settled 𝓤 lfo-step.ended (lfo-step.clauses 𝓛 mem run)
+  lfo_step_settled κs a g z y ws vs = equal 𝓤 _ z y refl
 
-  pub lfo-step-with-settled : Settled 𝓤 lfo-step-with.ended (lfo-step-with.clauses 𝓛 mem run)
-  lfo-step-with-settled κs a g z y ws vs = equal 𝓤 _ z y refl
+  pub lfo_step_with_settled : Settled 𝓤 lfo-step-with.ended (lfo-step-with.clauses 𝓛 mem run)
+  lfo_step_with_settled κs a g z y ws vs = equal 𝓤 _ z y refl
 
-  pub lfo-scrub-settled : Settled 𝓤 lfo-scrub.ended (lfo-scrub.clauses 𝓛 mem run)
-  lfo-scrub-settled κs a g z y ws vs = equal 𝓤 _ z y refl
+  pub lfo_scrub_settled : Settled 𝓤 lfo-scrub.ended (lfo-scrub.clauses 𝓛 mem run)
+  lfo_scrub_settled κs a g z y ws vs = equal 𝓤 _ z y refl
 
-  pub lfo-scrub-with-settled : Settled 𝓤 lfo-scrub-with.ended (lfo-scrub-with.clauses 𝓛 mem run)
-  lfo-scrub-with-settled κs a g z y ws vs = equal 𝓤 _ z y refl
+  pub lfo_scrub_with_settled : Settled 𝓤 lfo-scrub-with.ended (lfo-scrub-with.clauses 𝓛 mem run)
+  lfo_scrub_with_settled κs a g z y ws vs = equal 𝓤 _ z y refl
 
-  pub lfo-value-settled : Settled 𝓤 lfo-value.ended (lfo-value.clauses 𝓛 mem run)
-  lfo-value-settled κs a g z y ws vs = equal 𝓤 _ z y refl
+  pub lfo_value_settled : Settled 𝓤 lfo-value.ended (lfo-value.clauses 𝓛 mem run)
+  lfo_value_settled κs a g z y ws vs = equal 𝓤 _ z y refl
 
-  pub lfo-value-with-settled : Settled 𝓤 lfo-value-with.ended (lfo-value-with.clauses 𝓛 mem run)
-  lfo-value-with-settled κs a g z y ws vs = equal 𝓤 _ z y refl
+  pub lfo_value_with_settled : Settled 𝓤 lfo-value-with.ended (lfo-value-with.clauses 𝓛 mem run)
+  lfo_value_with_settled κs a g z y ws vs = equal 𝓤 _ z y refl
 
-  pub lfo-delay-ramp-settled : Settled 𝓤 lfo-delay-ramp.ended (lfo-delay-ramp.clauses 𝓛 mem run)
-  lfo-delay-ramp-settled κs a g z y ws vs = equal 𝓤 _ z y refl
+  pub lfo_delay_ramp_settled : Settled 𝓤 lfo-delay-ramp.ended (lfo-delay-ramp.clauses 𝓛 mem run)
+  lfo_delay_ramp_settled κs a g z y ws vs = equal 𝓤 _ z y refl
 
-  pub lfo-pitch-mod-settled : Settled 𝓤 lfo-pitch-mod.ended (lfo-pitch-mod.clauses 𝓛 mem run)
-  lfo-pitch-mod-settled κs a g z y ws vs = equal 𝓤 _ z y refl
+  pub lfo_pitch_mod_settled : Settled 𝓤 lfo-pitch-mod.ended (lfo-pitch-mod.clauses 𝓛 mem run)
+  lfo_pitch_mod_settled κs a g z y ws vs = equal 𝓤 _ z y refl
 
-  pub lfo-amp-mod-settled : Settled 𝓤 lfo-amp-mod.ended (lfo-amp-mod.clauses 𝓛 mem run)
-  lfo-amp-mod-settled κs a g z y ws vs = equal 𝓤 _ z y refl
+  pub lfo_amp_mod_settled : Settled 𝓤 lfo-amp-mod.ended (lfo-amp-mod.clauses 𝓛 mem run)
+  lfo_amp_mod_settled κs a g z y ws vs = equal 𝓤 _ z y refl
 
   -- ---- voices
 
-  pub voice-init-settled : Settled 𝓤 voice-init.ended (voice-init.clauses 𝓛 mem run)
-  voice-init-settled κs a g z y ws vs = equal 𝓤 _ z y refl
+  pub voice_init_settled : Settled 𝓤 voice-init.ended (voice-init.clauses 𝓛 mem run)
+  voice_init_settled κs a g z y ws vs = equal 𝓤 _ z y refl
 
-  pub voice-set-patch-settled : Settled 𝓤 voice-set-patch.ended (voice-set-patch.clauses 𝓛 mem run)
-  voice-set-patch-settled κs a g z y ws vs = equal 𝓤 _ z y refl
+  pub voice_set_patch_settled : Settled 𝓤 voice-set-patch.ended (voice-set-patch.clauses 𝓛 mem run)
+  voice_set_patch_settled κs a g z y ws vs = equal 𝓤 _ z y refl
 
-  pub voice-take-patch-settled : Settled 𝓤 voice-take-patch.ended (voice-take-patch.clauses 𝓛 mem run)
-  voice-take-patch-settled κs a g z y ws vs = equal 𝓤 _ z y refl
+  pub voice_take_patch_settled : Settled 𝓤 voice-take-patch.ended (voice-take-patch.clauses 𝓛 mem run)
+  voice_take_patch_settled κs a g z y ws vs = equal 𝓤 _ z y refl
 
-  pub voice-patch-settled : Settled 𝓤 voice-patch.ended (voice-patch.clauses 𝓛 mem run)
-  voice-patch-settled κs a g z y ws vs = equal 𝓤 _ z y refl
+  pub voice_patch_settled : Settled 𝓤 voice-patch.ended (voice-patch.clauses 𝓛 mem run)
+  voice_patch_settled κs a g z y ws vs = equal 𝓤 _ z y refl
 
-  pub voice-set-transposing-settled : Settled 𝓤 voice-set-transposing.ended
+  pub voice_set_transposing_settled : Settled 𝓤 voice-set-transposing.ended
       (voice-set-transposing.clauses 𝓛 mem run)
-  voice-set-transposing-settled κs a g z y ws vs = equal 𝓤 _ z y refl
+  voice_set_transposing_settled κs a g z y ws vs = equal 𝓤 _ z y refl
 
-  pub voice-setup-settled : Settled 𝓤 voice-setup.ended (voice-setup.clauses 𝓛 mem run)
-  voice-setup-settled κs a g z y ws vs = equal 𝓤 _ z y refl
+  pub voice_setup_settled : Settled 𝓤 voice-setup.ended (voice-setup.clauses 𝓛 mem run)
+  voice_setup_settled κs a g z y ws vs = equal 𝓤 _ z y refl
 
   -- ---- identifiers
 
-  pub identity-identify-settled : Settled 𝓤 identity-identify.ended (identity-identify.clauses 𝓛 mem run)
-  identity-identify-settled κs a g z y ws vs = equal 𝓤 _ z y refl
+  pub identity_identify_settled : Settled 𝓤 identity-identify.ended (identity-identify.clauses 𝓛 mem run)
+  identity_identify_settled κs a g z y ws vs = equal 𝓤 _ z y refl
 
   -- ---- promises that are no plain equation
 
   -- a reader: its two fields
-  pub bank-reader-new-settled : Settled 𝓤 bank-reader-new.ended (bank-reader-new.clauses 𝓛 mem run)
-  bank-reader-new-settled κs a g z y ws vs = both 𝓤 _ _ _ (λ p q. (rw (p.0, q.0, p.1, q.1), refl))
+  pub bank_reader_new_settled : Settled 𝓤 bank-reader-new.ended (bank-reader-new.clauses 𝓛 mem run)
+  bank_reader_new_settled κs a g z y ws vs = both 𝓤 _ _ _ (λ p q. (rw (p.0, q.0, p.1, q.1), refl))
 
-  pub bank-reader-moved-settled : Settled 𝓤 bank-reader-moved.ended (bank-reader-moved.clauses 𝓛 mem run)
-  bank-reader-moved-settled κs a g z y ws vs = both 𝓤 _ _ _ (λ p q. (rw (p.0, q.0, p.1, q.1), refl))
+  pub bank_reader_moved_settled : Settled 𝓤 bank-reader-moved.ended (bank-reader-moved.clauses 𝓛 mem run)
+  bank_reader_moved_settled κs a g z y ws vs = both 𝓤 _ _ _ (λ p q. (rw (p.0, q.0, p.1, q.1), refl))
 
   -- a part: its bytes, and its place
-  pub bank-part-settled : Common 𝓤 bank-part.ended (bank-part.clauses 𝓛 mem run)
+  pub bank_part_settled : Common 𝓤 bank-part.ended (bank-part.clauses 𝓛 mem run)
       (λ κs a z y ws vs. (z.now ≡ y.now) × (z.ref_ptr ≡ y.ref_ptr))
-  bank-part-settled κs a g z y ws vs = same-part 𝓤 _ _ z y
+  bank_part_settled κs a g z y ws vs = same_part 𝓤 _ _ z y
 
-  pub bank-read-settled : Common 𝓤 bank-read.ended (bank-read.clauses 𝓛 mem run)
+  pub bank_read_settled : Common 𝓤 bank-read.ended (bank-read.clauses 𝓛 mem run)
       (λ κs a z y ws vs. (z.now ≡ y.now) × (z.ref_ptr ≡ y.ref_ptr))
-  bank-read-settled κs a g z y ws vs = same-part 𝓤 _ _ z y
+  bank_read_settled κs a g z y ws vs = same_part 𝓤 _ _ z y
 
-  pub bank-reader-part-settled : Common 𝓤 bank-reader-part.ended (bank-reader-part.clauses 𝓛 mem run)
+  pub bank_reader_part_settled : Common 𝓤 bank-reader-part.ended (bank-reader-part.clauses 𝓛 mem run)
       (λ κs a z y ws vs. (z.now ≡ y.now) × (z.ref_ptr ≡ y.ref_ptr))
-  bank-reader-part-settled κs a g z y ws vs = same-part 𝓤 _ _ z y
+  bank_reader_part_settled κs a g z y ws vs = same_part 𝓤 _ _ z y
 
   -- a text: its length, and the whole buffer
-  pub plan-text-print-settled : Settled 𝓤 plan-text-print.ended (plan-text-print.clauses 𝓛 mem run)
-  plan-text-print-settled κs a g z y ws vs =
+  pub plan_text_print_settled : Settled 𝓤 plan-text-print.ended (plan-text-print.clauses 𝓛 mem run)
+  plan_text_print_settled κs a g z y ws vs =
       both 𝓤 _ _ _ (λ p q.
       (p.next_place ∙ sym q.next_place, ap (λ x. (tt, (x, tt))) (p.buffer ∙ sym q.buffer)))
 
-  pub refusals-text-settled : Settled 𝓤 refusals-text.ended (refusals-text.clauses 𝓛 mem run)
-  refusals-text-settled κs a g z y ws vs =
+  pub refusals_text_settled : Settled 𝓤 refusals-text.ended (refusals-text.clauses 𝓛 mem run)
+  refusals_text_settled κs a g z y ws vs =
       both 𝓤 _ _ _ (λ p q. (p.size ∙ sym q.size, ap (λ x. (tt, (x, tt))) (p.buffer ∙ sym q.buffer)))
 
   -- a piece: the answer, and the whole buffer
-  pub pieces-take-settled : Settled 𝓤 pieces-take.ended (pieces-take.clauses 𝓛 mem run)
-  pieces-take-settled κs a g z y ws vs = both 𝓤 _ _ _ (λ p q. let e = p ∙ sym q in (
+  pub pieces_take_settled : Settled 𝓤 pieces-take.ended (pieces-take.clauses 𝓛 mem run)
+  pieces_take_settled κs a g z y ws vs = both 𝓤 _ _ _ (λ p q. let e = p ∙ sym q in (
     ap (λ (x : Took). x.taken) e,
     ap (λ (x : Took). (tt, (tt, (x.patch, tt)))) e,
   ))
 
   -- a block: the answer, and the whole block
-  pub voice-render-settled : Settled 𝓤 voice-render.ended (voice-render.clauses 𝓛 mem run)
-  voice-render-settled κs a g z y ws vs = both 𝓤 _ _ _ (λ p q. let e = p ∙ sym q in (
+  pub voice_render_settled : Settled 𝓤 voice-render.ended (voice-render.clauses 𝓛 mem run)
+  voice_render_settled κs a g z y ws vs = both 𝓤 _ _ _ (λ p q. let e = p ∙ sym q in (
     ap (λ (x : Answered). record { number = x.number; marks = x.marks; voice = x.voice }) e,
     ap (λ (x : Answered). (tt, (tt, (x.block, tt)))) e,
   ))
 
-  pub voice-render-with-settled : Settled 𝓤 voice-render-with.ended (voice-render-with.clauses 𝓛 mem run)
-  voice-render-with-settled κs a g z y ws vs = both 𝓤 _ _ _ (λ p q. let e = p ∙ sym q in (
+  pub voice_render_with_settled : Settled 𝓤 voice-render-with.ended (voice-render-with.clauses 𝓛 mem run)
+  voice_render_with_settled κs a g z y ws vs = both 𝓤 _ _ _ (λ p q. let e = p ∙ sym q in (
     ap (λ (x : Answered). record { number = x.number; marks = x.marks; voice = x.voice }) e,
     ap (λ (x : Answered). (tt, (tt, (tt, (tt, (tt, (x.block, tt))))))) e,
   ))

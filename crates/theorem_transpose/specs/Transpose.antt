@@ -4,36 +4,36 @@ use Rattle.std.specs.Prelude.{Bool, cond, List, length, Float}
 use Rattle.numbers.specs.F32.{◌⊕◌}
 use Rattle.voice_note.specs.Note.{shift_of}
 use Rattle.voice.specs.declared.Voice.{Voice}
-use Rattle.voice.specs.Voice.{movingOf, tuningsOf, contentsOf, rebuilt}
-use Rattle.voice.specs.Answers.{stateFits}
+use Rattle.voice.specs.Voice.{moving_of, tunings_of, contents_of, rebuilt}
+use Rattle.voice.specs.Answers.{state_fits}
 use Rattle.voice_render.specs.declared.VoiceParameters.{VoiceParameters}
-use Rattle.voice_render.specs.Setup.{setUp}
-use Rattle.voice_render.specs.Block.{withNote, sounded}
-use Rattle.voice_render.specs.Answers.{blockFits, parametersFit, Answered, unsounded, sounding}
+use Rattle.voice_render.specs.Setup.{set_up}
+use Rattle.voice_render.specs.Block.{with_note, sounded}
+use Rattle.voice_render.specs.Answers.{block_fits, parameters_fit, Answered, unsounded, sounding}
 
 -- 9, 8, 7; a dirty voice's block is blank: it sets up, touches no buffer and does not record the gate
-unfoldable pub plainAnswer : List Float → List Float → List Float → Voice → VoiceParameters → List Float → Answered
-plainAnswer pairs high low v p block =
-    cond (stateFits v)
-    (cond (blockFits (length block))
-    (cond (parametersFit p)
-    (cond v.dirty (unsounded 0 (setUp high low v) block) (sounding (sounded pairs high low v p block)))
+unfoldable pub plain_answer : List Float → List Float → List Float → Voice → VoiceParameters → List Float → Answered
+plain_answer pairs high low v p block =
+    cond (state_fits v)
+    (cond (block_fits (length block))
+    (cond (parameters_fit p)
+    (cond v.dirty (unsounded 0 (set_up high low v) block) (sounding (sounded pairs high low v p block)))
     (unsounded 7 v block))
     (unsounded 8 v block))
     (unsounded 9 v block)
 
 -- the voice with its switch on or off, and nothing else changed
 unfoldable pub turned : Voice → Bool → Voice
-turned v on = rebuilt v (movingOf v) (tuningsOf v) (contentsOf v) v.dirty on
+turned v on = rebuilt v (moving_of v) (tunings_of v) (contents_of v) v.dirty on
 
 -- an answer whose voice is turned
-abbrev pub answerTurned : Answered → Bool → Answered
-answerTurned a on = record { number = a.number; marks = a.marks; voice = turned a.voice on; block = a.block }
+abbrev pub answer_turned : Answered → Bool → Answered
+answer_turned a on = record { number = a.number; marks = a.marks; voice = turned a.voice on; block = a.block }
 
 -- the note plus the whole number transpose minus 24
-unfoldable pub shiftedNote : Voice → VoiceParameters → Float
-shiftedNote v p = p.note ⊕ shift_of v.patch.transpose
+unfoldable pub shifted_note : Voice → VoiceParameters → Float
+shifted_note v p = p.note ⊕ shift_of v.patch.transpose
 
 -- a block's parameters with the shifted note
 unfoldable pub shifted : Voice → VoiceParameters → VoiceParameters
-shifted v p = withNote p (shiftedNote v p)
+shifted v p = with_note p (shifted_note v p)

@@ -14,15 +14,15 @@ pub data Turned (t : Float → Bool) (f g : Float → Float) (x z : Float) : Flo
   turned : t x ≡ true → Turned t f g x z (f x) (g z)
 
 -- the turns that are left
-abbrev pub turnsLeft : (Float → Bool) → Float → ℕ
-turnsLeft t s = cond (t s) 1 0
+abbrev pub turns_left : (Float → Bool) → Float → ℕ
+turns_left t s = cond (t s) 1 0
 
 module _ (t : Float → Bool) (f g : Float → Float) (x z : Float) (once : t x ≡ true → t (f x) ≡ false) where
   pub again : {s w : Float} → Turned t f g x z s w → t s ≡ true → Turned t f g x z (f s) (g w)
   again begun h = turned h
   again (turned e) h = on (sym h ∙ once e)
 
-  pub fewer : {s w : Float} → Turned t f g x z s w → t s ≡ true → turnsLeft t (f s) < turnsLeft t s
+  pub fewer : {s w : Float} → Turned t f g x z s w → t s ≡ true → turns_left t (f s) < turns_left t s
   fewer begun h = rw (h, once h) (omega arith)
   fewer (turned e) h = on (sym h ∙ once e)
 

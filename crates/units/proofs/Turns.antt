@@ -13,37 +13,37 @@ use lib.Ieee.Bits.{is_true}
 use lib.Ieee.Order.{round_mono}
 use lib.Ieee.Fits.{down_pos, and_i, and_l, and_r}
 use lib.Ieee.{Float, nan, inf, fin, binary32, up, down, lt, le, eq, neg, add, sub, sum, round}
-use Rattle.numbers.proofs.Views.{no, or-le, or-ge}
-use Rattle.numbers.proofs.Casts.{or-i, le-or, ge-or}
-use Rattle.numbers.proofs.Rounded.{Plus, p-inf, p-fin, round-plus, round-neg, Upto, upto, upto-at}
-use Rattle.numbers.specs.F32.{◌⊕◌, ◌⊖◌, ◌⊗◌, ◌⊘◌, decimal, minusDecimal}
+use Rattle.numbers.proofs.Views.{no, or_le, or_ge}
+use Rattle.numbers.proofs.Casts.{or_i, le_or, ge_or}
+use Rattle.numbers.proofs.Rounded.{Plus, p_inf, p_fin, round_plus, round_neg, Upto, upto, upto_at}
+use Rattle.numbers.specs.F32.{◌⊕◌, ◌⊖◌, ◌⊗◌, ◌⊘◌, decimal, minus_decimal}
 use Rattle.units.specs.declared.Shifted.{Shifted}
-use Rattle.units.specs.Ratio.{within, lowered, raised, ratioIn, ratioOf}
-use Rattle.units.proofs.Bounds.{Sized, sized, is-sized}
+use Rattle.units.specs.Ratio.{within, lowered, raised, ratio_in, ratio_of}
+use Rattle.units.proofs.Bounds.{Sized, sized, is_sized}
 
 -- ---- 120 less, 120 more, or neither, is from -120 to 120
 
 scaled : (M j : ℕ) (e : ℤ) → 0 < M → 0 < M * 2 ^ j * down e
 scaled M j e p = mul-le-mul (mul-le-mul p (pow_pos j)) (down_pos e)
 
-minus-le : (M j : ℕ) (y : Float) → 0 < M → Plus y → T (le (fin true M (pos j)) y)
+minus_le : (M j : ℕ) (y : Float) → 0 < M → Plus y → T (le (fin true M (pos j)) y)
 unfolding le lt eq
-minus-le M j _ p p-inf = tt
-minus-le M j _ p (p-fin m e) =
-    or-i (ltb 0 (M * 2 ^ j * down e + m * up e * 1))
+minus_le M j _ p p_inf = tt
+minus_le M j _ p (p_fin m e) =
+    or_i (ltb 0 (M * 2 ^ j * down e + m * up e * 1))
     (eqb (M * 2 ^ j * down e) (m * up e * 1) && eqb (M * 2 ^ j * down e) 0)
     (lt→ltb 0 (M * 2 ^ j * down e + m * up e * 1) (let q = scaled M j e p in omega arith))
 
-neg-le : (M j : ℕ) (y : Float) → 0 < M → Plus y → T (le (neg y) (fin false M (pos j)))
+neg_le : (M j : ℕ) (y : Float) → 0 < M → Plus y → T (le (neg y) (fin false M (pos j)))
 unfolding le lt eq neg
-neg-le M j _ p p-inf = tt
-neg-le M j _ p (p-fin m e) =
-    or-i (ltb 0 (m * up e * 1 + M * 2 ^ j * down e)) (eqb (m * up e * 1) (M * 2 ^ j * down e) && eqb (m * up e * 1) 0)
+neg_le M j _ p p_inf = tt
+neg_le M j _ p (p_fin m e) =
+    or_i (ltb 0 (m * up e * 1 + M * 2 ^ j * down e)) (eqb (m * up e * 1) (M * 2 ^ j * down e) && eqb (m * up e * 1) 0)
     (lt→ltb 0 (m * up e * 1 + M * 2 ^ j * down e) (let q = scaled M j e p in omega arith))
 
-minus-le-neg : (M j : ℕ) (y : Float) → Upto (M * 2 ^ j) 1 y → T (le (fin true M (pos j)) (neg y))
+minus_le_neg : (M j : ℕ) (y : Float) → Upto (M * 2 ^ j) 1 y → T (le (fin true M (pos j)) (neg y))
 unfolding le lt eq neg
-minus-le-neg M j _ (upto m e h) = ge-or (M * 2 ^ j * down e) (m * up e * 1) h
+minus_le_neg M j _ (upto m e h) = ge_or (M * 2 ^ j * down e) (m * up e * 1) h
 
 less : (x : Float) → lt (fin false 15 (pos 3)) x ≡ true → le x (fin false 15 (pos 4)) ≡ true
     → T (le (fin true 15 (pos 3)) (sub binary32 x (fin false 15 (pos 3))))
@@ -55,11 +55,11 @@ less (inf false) g h = no h
 less (fin true m e) g h = no g
 less (fin false m e) g h =
     let a = ltb-true (120 * down e) (m * up e * 1) g in
-    let b = or-le (m * up e * 1) (240 * down e) true h in
+    let b = or_le (m * up e * 1) (240 * down e) true h in
     let p = down_pos e in
     rw (le-ltb (m * up e * 1) (120 * down e) (omega arith)) (
-      minus-le 15 3 (round binary32 false (m * up e * 1 - 120 * down e) (down e * 1)) (omega arith)
-          (round-plus (m * up e * 1 - 120 * down e) (down e * 1)),
+      minus_le 15 3 (round binary32 false (m * up e * 1 - 120 * down e) (down e * 1)) (omega arith)
+          (round_plus (m * up e * 1 - 120 * down e) (down e * 1)),
       round_mono binary32 (m * up e * 1 - 120 * down e) (down e * 1) 120 1 (omega arith) (omega arith) (omega arith),
     )
 
@@ -73,14 +73,14 @@ more (inf false) g h = no g
 more (fin false m e) g h = no g
 more (fin true m e) g h =
     let a = ltb-true (120 * down e) (m * up e * 1) g in
-    let b = or-ge (240 * down e) (m * up e * 1) true h in
+    let b = or_ge (240 * down e) (m * up e * 1) true h in
     let p = down_pos e in
     let n = m * up e * 1 - 120 * down e in
     let d = down e * 1 in
     let y = round binary32 false n d in
-    rw (le-ltb (m * up e * 1) (120 * down e) (omega arith), lt-ltb (120 * down e) (m * up e * 1) a, round-neg n d) (
-      minus-le-neg 15 3 y (upto-at 15 (pos 3) y (round-plus n d) (is_true _ (round_mono binary32 n d 120 1 (omega arith) (omega arith) (omega arith)))),
-      neg-le 15 3 y (omega arith) (round-plus n d),
+    rw (le-ltb (m * up e * 1) (120 * down e) (omega arith), lt-ltb (120 * down e) (m * up e * 1) a, round_neg n d) (
+      minus_le_neg 15 3 y (upto_at 15 (pos 3) y (round_plus n d) (is_true _ (round_mono binary32 n d 120 1 (omega arith) (omega arith) (omega arith)))),
+      neg_le 15 3 y (omega arith) (round_plus n d),
     )
 
 between : (x : Float) → le (fin true 15 (pos 4)) x ≡ true → le x (fin false 15 (pos 4)) ≡ true
@@ -91,9 +91,9 @@ between nan a b g h = no a
 between (inf true) a b g h = no a
 between (inf false) a b g h = no b
 between (fin false m e) a b g h =
-    (minus-le 15 3 (fin false m e) (omega arith) (p-fin m e), le-or (m * up e * 1) (120 * down e) (ltb-false (120 * down e) (m * up e * 1) g))
+    (minus_le 15 3 (fin false m e) (omega arith) (p_fin m e), le_or (m * up e * 1) (120 * down e) (ltb-false (120 * down e) (m * up e * 1) g))
 between (fin true m e) a b g h =
-    (ge-or (120 * down e) (m * up e * 1) (ltb-false (120 * down e) (m * up e * 1) h), neg-le 15 3 (fin false m e) (omega arith) (p-fin m e))
+    (ge_or (120 * down e) (m * up e * 1) (ltb-false (120 * down e) (m * up e * 1) h), neg_le 15 3 (fin false m e) (omega arith) (p_fin m e))
 
 -- ---- at most, and not above
 
@@ -118,94 +118,94 @@ le_not_lt (inf false) (fin t n d) h = no h
 le_not_lt (fin s m e) nan h = no h
 le_not_lt (fin s m e) (inf true) h = no h
 le_not_lt (fin s m e) (inf false) h = refl
-le_not_lt (fin false m e) (fin false n d) h = le-ltb _ _ (or-le (m * up e * down d) (n * up d * down e) true h)
+le_not_lt (fin false m e) (fin false n d) h = le-ltb _ _ (or_le (m * up e * down d) (n * up d * down e) true h)
 le_not_lt (fin false m e) (fin true n d) h = both_zero (m * up e * down d) (n * up d * down e) h
 le_not_lt (fin true m e) (fin false n d) h = refl
-le_not_lt (fin true m e) (fin true n d) h = le-ltb _ _ (or-ge (m * up e * down d) (n * up d * down e) true h)
+le_not_lt (fin true m e) (fin true n d) h = le-ltb _ _ (or_ge (m * up e * down d) (n * up d * down e) true h)
 
 -- ---- the same of `within`
 
-at_least : (n : ℕ) (x : Float) → T (within n x) → le (minusDecimal n 0) x ≡ true
+at_least : (n : ℕ) (x : Float) → T (within n x) → le (minus_decimal n 0) x ≡ true
 unfolding within
-at_least n x h = is_true _ (and_l (le (minusDecimal n 0) x) (le x (decimal n 0)) h)
+at_least n x h = is_true _ (and_l (le (minus_decimal n 0) x) (le x (decimal n 0)) h)
 
 at_most : (n : ℕ) (x : Float) → T (within n x) → le x (decimal n 0) ≡ true
 unfolding within
-at_most n x h = is_true _ (and_r (le (minusDecimal n 0) x) (le x (decimal n 0)) h)
+at_most n x h = is_true _ (and_r (le (minus_decimal n 0) x) (le x (decimal n 0)) h)
 
-pub is_within : (n : ℕ) (x : Float) → T (le (minusDecimal n 0) x) → T (le x (decimal n 0)) → T (within n x)
+pub is_within : (n : ℕ) (x : Float) → T (le (minus_decimal n 0) x) → T (le x (decimal n 0)) → T (within n x)
 unfolding within
-is_within n x l h = and_i (le (minusDecimal n 0) x) (le x (decimal n 0)) l h
+is_within n x l h = and_i (le (minus_decimal n 0) x) (le x (decimal n 0)) l h
 
-less-within : (x : Float) → T (within 240 x) → lt (decimal 120 0) x ≡ true → T (within 120 (x ⊖ decimal 120 0))
-unfolding decimal minusDecimal
-less-within x h g = let p = less x g (at_most 240 x h) in is_within 120 (x ⊖ decimal 120 0) p.0 p.1
+less_within : (x : Float) → T (within 240 x) → lt (decimal 120 0) x ≡ true → T (within 120 (x ⊖ decimal 120 0))
+unfolding decimal minus_decimal
+less_within x h g = let p = less x g (at_most 240 x h) in is_within 120 (x ⊖ decimal 120 0) p.0 p.1
 
-more_within : (x : Float) → T (within 240 x) → lt x (minusDecimal 120 0) ≡ true → T (within 120 (x ⊕ decimal 120 0))
-unfolding decimal minusDecimal
+more_within : (x : Float) → T (within 240 x) → lt x (minus_decimal 120 0) ≡ true → T (within 120 (x ⊕ decimal 120 0))
+unfolding decimal minus_decimal
 more_within x h g = let p = more x g (at_least 240 x h) in is_within 120 (x ⊕ decimal 120 0) p.0 p.1
 
-between-within : (x : Float) → T (within 240 x) → lt (decimal 120 0) x ≡ false → lt x (minusDecimal 120 0) ≡ false
+between_within : (x : Float) → T (within 240 x) → lt (decimal 120 0) x ≡ false → lt x (minus_decimal 120 0) ≡ false
     → T (within 120 x)
-unfolding decimal minusDecimal
-between-within x h g l = let p = between x (at_least 240 x h) (at_most 240 x h) g l in is_within 120 x p.0 p.1
+unfolding decimal minus_decimal
+between_within x h g l = let p = between x (at_least 240 x h) (at_most 240 x h) g l in is_within 120 x p.0 p.1
 
 -- neither loop takes a second turn
-pub lowered-once : (x : Float) → T (within 240 x) → lt (decimal 120 0) x ≡ true
+pub lowered_once : (x : Float) → T (within 240 x) → lt (decimal 120 0) x ≡ true
     → lt (decimal 120 0) (x ⊖ decimal 120 0) ≡ false
-lowered-once x h g = le_not_lt _ _ (at_most 120 _ (less-within x h g))
+lowered_once x h g = le_not_lt _ _ (at_most 120 _ (less_within x h g))
 
-pub raised-once : (x : Float) → T (within 240 x) → lt x (minusDecimal 120 0) ≡ true
-    → lt (x ⊕ decimal 120 0) (minusDecimal 120 0) ≡ false
-raised-once x h g = le_not_lt _ _ (at_least 120 _ (more_within x h g))
+pub raised_once : (x : Float) → T (within 240 x) → lt x (minus_decimal 120 0) ≡ true
+    → lt (x ⊕ decimal 120 0) (minus_decimal 120 0) ≡ false
+raised_once x h g = le_not_lt _ _ (at_least 120 _ (more_within x h g))
 
 -- ---- what the loops hand on
 
 wide : (x : Float) → Sized 120 x → T (le (fin true 15 (pos 4)) x) × T (le x (fin false 15 (pos 4)))
 unfolding le lt eq neg
 wide _ (sized false m e h) =
-    (minus-le 15 4 (fin false m e) (omega arith) (p-fin m e), le-or (m * up e * 1) (240 * down e) (omega arith))
+    (minus_le 15 4 (fin false m e) (omega arith) (p_fin m e), le_or (m * up e * 1) (240 * down e) (omega arith))
 wide _ (sized true m e h) =
-    (ge-or (240 * down e) (m * up e * 1) (omega arith), neg-le 15 4 (fin false m e) (omega arith) (p-fin m e))
+    (ge_or (240 * down e) (m * up e * 1) (omega arith), neg_le 15 4 (fin false m e) (omega arith) (p_fin m e))
 
 wider : (x : Float) → T (within 120 x) → T (within 240 x)
-unfolding decimal minusDecimal
-wider x h = let p = wide x (is-sized 15 3 x (at_least 120 x h) (at_most 120 x h)) in is_within 240 x p.0 p.1
+unfolding decimal minus_decimal
+wider x h = let p = wide x (is_sized 15 3 x (at_least 120 x h) (at_most 120 x h)) in is_within 240 x p.0 p.1
 
-pub lowered-within : (x : Float) → T (within 240 x) → T (within 240 (lowered x).semitones)
+pub lowered_within : (x : Float) → T (within 240 x) → T (within 240 (lowered x).semitones)
 unfolding lowered
-lowered-within x h = go (lt (decimal 120 0) x) refl
+lowered_within x h = go (lt (decimal 120 0) x) refl
   where
     go : (b : Bool) → lt (decimal 120 0) x ≡ b
         → T (within 240 (cond {A =
         Shifted} b (record { semitones = x ⊖ decimal 120 0; scale = decimal 1 0 ⊗ decimal 1024 0 }) (record
         { semitones = x; scale = decimal 1 0 })).semitones)
-    go true g = wider (x ⊖ decimal 120 0) (less-within x h g)
+    go true g = wider (x ⊖ decimal 120 0) (less_within x h g)
     go false g = h
 
-pub raised-within : (x : Shifted) → T (within 240 x.semitones) → lt (decimal 120 0) x.semitones ≡ false
+pub raised_within : (x : Shifted) → T (within 240 x.semitones) → lt (decimal 120 0) x.semitones ≡ false
     → T (within 120 (raised x).semitones)
 unfolding raised
-raised-within x h a = go (lt x.semitones (minusDecimal 120 0)) refl
+raised_within x h a = go (lt x.semitones (minus_decimal 120 0)) refl
   where
-    go : (b : Bool) → lt x.semitones (minusDecimal 120 0) ≡ b
+    go : (b : Bool) → lt x.semitones (minus_decimal 120 0) ≡ b
         → T (within 120 (cond {A = Shifted} b (record { semitones = x.semitones ⊕ decimal 120 0; scale = x.scale ⊗ (decimal 1 0 ⊘ decimal 1024 0) }) x).semitones)
     go true g = more_within x.semitones h g
-    go false g = between-within x.semitones h a g
+    go false g = between_within x.semitones h a g
 
-lowered-below : (x : Float) → T (within 240 x) → lt (decimal 120 0) (lowered x).semitones ≡ false
+lowered_below : (x : Float) → T (within 240 x) → lt (decimal 120 0) (lowered x).semitones ≡ false
 unfolding lowered
-lowered-below x h = go (lt (decimal 120 0) x) refl
+lowered_below x h = go (lt (decimal 120 0) x) refl
   where
     go : (b : Bool) → lt (decimal 120 0) x ≡ b
         → lt (decimal 120 0) (cond {A =
         Shifted} b (record { semitones = x ⊖ decimal 120 0; scale = decimal 1 0 ⊗ decimal 1024 0 }) (record
         { semitones = x; scale = decimal 1 0 })).semitones ≡ false
-    go true g = lowered-once x h g
+    go true g = lowered_once x h g
     go false g = g
 
-pub handed-on : (x : Float) → T (within 240 x) → T (within 120 (raised (lowered x)).semitones)
-handed-on x h = raised-within (lowered x) (lowered-within x h) (lowered-below x h)
+pub handed_on : (x : Float) → T (within 240 x) → T (within 120 (raised (lowered x)).semitones)
+handed_on x h = raised_within (lowered x) (lowered_within x h) (lowered_below x h)
 
 -- ---- the two loops' tests and turns
 
@@ -219,7 +219,7 @@ abbrev pub times1024 : Float → Float
 times1024 s = s ⊗ decimal 1024 0
 
 abbrev pub below : Float → Bool
-below s = lt s (minusDecimal 120 0)
+below s = lt s (minus_decimal 120 0)
 
 abbrev pub up120 : Float → Float
 up120 s = s ⊕ decimal 120 0
@@ -230,22 +230,22 @@ over1024 s = s ⊗ (decimal 1 0 ⊘ decimal 1024 0)
 -- ---- the whole ratio, from what its calls ensure
 
 pub inside : (high low : List Float) (s : Float) {x y : Shifted} {q : Float} → T (within 240 s) → x ≡ lowered s
-    → y ≡ raised x → q ≡ ratioIn high low y.semitones
-    → y.scale ⊗ q ≡ ratioOf high low s
-unfolding ratioOf
+    → y ≡ raised x → q ≡ ratio_in high low y.semitones
+    → y.scale ⊗ q ≡ ratio_of high low s
+unfolding ratio_of
 inside high low s h ex ey eq = simp (is_true (within 240 s) h, eq, ey, ex)
 
-pub outside : (high low : List Float) (s : Float) → le (minusDecimal 240 0) s ≡ true → le s (decimal 240 0) ≡ false
-    → decimal 1 0 ≡ ratioOf high low s
-unfolding ratioOf within
+pub outside : (high low : List Float) (s : Float) → le (minus_decimal 240 0) s ≡ true → le s (decimal 240 0) ≡ false
+    → decimal 1 0 ≡ ratio_of high low s
+unfolding ratio_of within
 outside high low s l h = simp (l, h)
 
-pub far-below : (high low : List Float) (s : Float) → le (minusDecimal 240 0) s ≡ false
-    → decimal 1 0 ≡ ratioOf high low s
-unfolding ratioOf within
-far-below high low s l = simp l
+pub far_below : (high low : List Float) (s : Float) → le (minus_decimal 240 0) s ≡ false
+    → decimal 1 0 ≡ ratio_of high low s
+unfolding ratio_of within
+far_below high low s l = simp l
 
 -- with tables that were made on the way
-pub made : (s : Float) {h high l low : List Float} {r : Float} → h ≡ high → l ≡ low → r ≡ ratioOf h l s
-    → r ≡ ratioOf high low s
+pub made : (s : Float) {h high l low : List Float} {r : Float} → h ≡ high → l ≡ low → r ≡ ratio_of h l s
+    → r ≡ ratio_of high low s
 made s eh el er = simp (er, eh, el)

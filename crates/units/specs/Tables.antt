@@ -3,9 +3,9 @@ use Rattle.std.specs.Prelude.{List, [], ◌∷◌, Float}
 use Rattle.numbers.specs.F32.{decimal}
 
 -- the ratio of each whole semitone from -128
-unfoldable pub lutPitchRatioHigh : List Float
+unfoldable pub lut_pitch_ratio_high : List Float
 unfolding decimal
-lutPitchRatioHigh =
+lut_pitch_ratio_high =
     decimal 6151958251 13 ∷
     decimal 6517772725 13 ∷
     decimal 6905339660 13 ∷
@@ -265,9 +265,9 @@ lutPitchRatioHigh =
     []
 
 -- the ratio of each 256th part of a semitone
-unfoldable pub lutPitchRatioLow : List Float
+unfoldable pub lut_pitch_ratio_low : List Float
 unfolding decimal
-lutPitchRatioLow =
+lut_pitch_ratio_low =
     decimal 1000000000 9 ∷
     decimal 1000225659 9 ∷
     decimal 1000451370 9 ∷

@@ -3,8 +3,8 @@
 // f32, and its promise names it: 1 for a NaN and outside -240 to 240, where the Rust's loops take many
 // turns or never end.
 ghost use Rattle.std.specs.Prelude.{◌≡◌, T};
-ghost use Rattle.units.specs.Tables.{lutPitchRatioHigh, lutPitchRatioLow};
-ghost use Rattle.units.specs.Ratio.{within, ratioIn, lowered, raised, ratioOf};
+ghost use Rattle.units.specs.Tables.{lut_pitch_ratio_high, lut_pitch_ratio_low};
+ghost use Rattle.units.specs.Ratio.{within, ratio_in, lowered, raised, ratio_of};
 
 mod tables;
 
@@ -17,13 +17,13 @@ struct Shifted {
 
 // The tables, each to be made a local once and lent from there.
 pub fn lut_pitch_ratio_high() -> [f32; 256]
-    ensures { result ≡ lutPitchRatioHigh }
+    ensures { result ≡ lut_pitch_ratio_high }
 {
     tables::LUT_PITCH_RATIO_HIGH
 }
 
 pub fn lut_pitch_ratio_low() -> [f32; 256]
-    ensures { result ≡ lutPitchRatioLow }
+    ensures { result ≡ lut_pitch_ratio_low }
 {
     tables::LUT_PITCH_RATIO_LOW
 }
@@ -31,7 +31,7 @@ pub fn lut_pitch_ratio_low() -> [f32; 256]
 // From -120 to 120: the whole semitone's ratio times the rest's, to the 256th part below.
 fn semitones_to_ratio(high: &[f32; 256], low: &[f32; 256], semitones: f32) -> f32
     requires { T (within 120 semitones) }
-    ensures { result ≡ ratioIn high.now low.now semitones }
+    ensures { result ≡ ratio_in high.now low.now semitones }
 {
     let pitch = semitones + 128.0;
     let integral = numbers::f32_as_usize(pitch);
@@ -42,7 +42,7 @@ fn semitones_to_ratio(high: &[f32; 256], low: &[f32; 256], semitones: f32) -> f3
 
 // The ratio for every f32, with the tables lent.
 pub fn semitones_to_ratio_lent(high: &[f32; 256], low: &[f32; 256], semitones: f32) -> f32
-    ensures { result ≡ ratioOf high.now low.now semitones }
+    ensures { result ≡ ratio_of high.now low.now semitones }
 {
     if semitones >= -240.0 {
         if semitones <= 240.0 {
@@ -55,7 +55,7 @@ pub fn semitones_to_ratio_lent(high: &[f32; 256], low: &[f32; 256], semitones: f
 
 // The ratio for every f32.
 pub fn semitones_to_ratio_safe(semitones: f32) -> f32
-    ensures { result ≡ ratioOf lutPitchRatioHigh lutPitchRatioLow semitones }
+    ensures { result ≡ ratio_of lut_pitch_ratio_high lut_pitch_ratio_low semitones }
 {
     let high = lut_pitch_ratio_high();
     let low = lut_pitch_ratio_low();

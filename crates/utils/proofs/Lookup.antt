@@ -8,11 +8,11 @@ use lib.ListN.{length, get_or}
 use lib.IntN.{ℤ}
 use lib.Ieee.{Float, nan, binary32, to_unsigned, to_signed, of_int}
 use Rattle.numbers.specs.F32.{◌⊕◌, ◌⊖◌, ◌⊗◌, as_float}
-use Rattle.utils.specs.Interpolate.{line_at, last_of, interpolated, interpolatedWrap}
+use Rattle.utils.specs.Interpolate.{line_at, last_of, interpolated, interpolated_wrap}
 
-pub no-entry : (table : List Float) → length table ≡ 0 → nan ≡ last_of table
-no-entry [] h = refl
-no-entry (x ∷ xs) h = let q : ⊥ = omega arith in absurd q
+pub no_entry : (table : List Float) → length table ≡ 0 → nan ≡ last_of table
+no_entry [] h = refl
+no_entry (x ∷ xs) h = let q : ⊥ = omega arith in absurd q
 
 module _ (table : List Float) (place : Float) (i : ℕ) (ei : i ≡ to_unsigned 64 place) where
   pub at_last : length table ≤ i + 1 → last_of table ≡ line_at table place
@@ -27,6 +27,6 @@ module _ (table : List Float) (place : Float) (i : ℕ) (ei : i ≡ to_unsigned 
 -- a call is handed the signed number m, which is n read back from its bits
 pub wrapped : (table : List Float) (index size : Float) {w r : Float} {n m : ℤ} → n ≡ to_signed 31 index → m ≡ n
     → w ≡ of_int binary32 m
-    → r ≡ interpolated table (index ⊖ w) size → r ≡ interpolatedWrap table index size
-unfolding interpolatedWrap
+    → r ≡ interpolated table (index ⊖ w) size → r ≡ interpolated_wrap table index size
+unfolding interpolated_wrap
 wrapped table index size en em ew er = simp (er, ew, em, en)

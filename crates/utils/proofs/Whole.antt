@@ -13,8 +13,8 @@ use lib.Ieee.Exact.{HasValue, round_exact}
 use lib.Ieee.Fits.{of_int-fits}
 use Rattle.numbers.proofs.Casts.{digits_lt}
 
-cut-le : (m d : ℕ) → 0 < d → m * 1 / d ≤ m
-cut-le m d p = div-le_of_le-mul d (rw mul-one (let q : m * 1 ≤ m * d = mul-le-mul_left m p in omega arith))
+cut_le : (m d : ℕ) → 0 < d → m * 1 / d ≤ m
+cut_le m d p = div-le_of_le-mul d (rw mul-one (let q : m * 1 ≤ m * d = mul-le-mul_left m p in omega arith))
 
 -- m * 2 ^ k in units of the smallest f32
 scaled : (m k : ℕ) → m * 2 ^ k * 2 ^ 149 ≡ m * 2 ^ (k + 149) * 1
@@ -28,10 +28,10 @@ below m k h =
     (mul-lt-mul_of_pos_right (lt_of_lt_of_le h p) (pow_pos 149))
 
 -- a whole number of at most 24 digits, times a power of two, is an f32
-pub whole-exact : (m k : ℕ) → m < 2 ^ 24 → m * 2 ^ k < 2 ^ 64
+pub whole_exact : (m k : ℕ) → m < 2 ^ 24 → m * 2 ^ k < 2 ^ 64
     → HasValue (of_int binary32 (pos (m * 2 ^ k))) false (m * 2 ^ k) 1
 unfolding of_int
-whole-exact m k a h = round_exact binary32 false (m * 2 ^ k) 1 m (k + 149) (omega arith) a (below m k h) (scaled m k)
+whole_exact m k a h = round_exact binary32 false (m * 2 ^ k) 1 m (k + 149) (omega arith) a (below m k h) (scaled m k)
 
 pub whole_back : (x : Float) → T (fits binary32 x) → 2 ^ 24 ≤ to_unsigned 64 x → to_unsigned 64 x < 2 ^ 64 - 1
     → x ≡ of_int binary32 (pos (to_unsigned 64 x))
@@ -42,7 +42,7 @@ whole_back (inf false) f l h = let q : ⊥ = omega arith in absurd q
 whole_back (fin true m e) f l h = let q : ⊥ = omega arith in absurd q
 whole_back (fin false m (negsuc k)) f l h =
     let a = digits_lt m (negsuc k) f in
-    let b = cut-le m (2 ^ suc k) (pow_pos (suc k)) in
+    let b = cut_le m (2 ^ suc k) (pow_pos (suc k)) in
     let q : ⊥ = omega arith in
     absurd q
 whole_back (fin false m (pos k)) f l h =
@@ -50,8 +50,8 @@ whole_back (fin false m (pos k)) f l h =
     let a = digits_lt m (pos k) f in
     let e : to_unsigned 64 (fin false m (pos k)) ≡ n = omega arith in
     rw e
-    (whole_unique binary32 (fin false m (pos k)) (of_int binary32 (pos n)) false n f (of_int-fits binary32 (pos n)) (refl, refl) (whole-exact m k a (omega arith)))
+    (whole_unique binary32 (fin false m (pos k)) (of_int binary32 (pos n)) false n f (of_int-fits binary32 (pos n)) (refl, refl) (whole_exact m k a (omega arith)))
 
-pub whole-back-at : (x : Float) (i : ℕ) → T (fits binary32 x) → i ≡ to_unsigned 64 x → 2 ^ 24 ≤ i → i < 2 ^ 64 - 1
+pub whole_back_at : (x : Float) (i : ℕ) → T (fits binary32 x) → i ≡ to_unsigned 64 x → 2 ^ 24 ≤ i → i < 2 ^ 64 - 1
     → x ≡ of_int binary32 (pos i)
-whole-back-at x i f e l h = rw e (whole_back x f (rw e at l) (rw e at h))
+whole_back_at x i f e l h = rw e (whole_back x f (rw e at l) (rw e at h))

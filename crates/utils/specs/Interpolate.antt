@@ -22,5 +22,5 @@ unfoldable pub interpolated : List Float → Float → Float → Float
 interpolated table index size = line_at table (clamped index ⊗ size)
 
 -- the same at the index without its whole part
-unfoldable pub interpolatedWrap : List Float → Float → Float → Float
-interpolatedWrap table index size = interpolated table (index ⊖ of_int binary32 (to_signed 31 index)) size
+unfoldable pub interpolated_wrap : List Float → Float → Float → Float
+interpolated_wrap table index size = interpolated table (index ⊖ of_int binary32 (to_signed 31 index)) size

@@ -4,7 +4,7 @@
 ghost use Rattle.std.specs.Prelude.{◌≡◌, ◌-◌, ◌^◌, ◌<◌, pos};
 ghost use Rattle.std.specs.Float.{binary32};
 ghost use Rattle.std.specs.Float.Ieee.{to_unsigned, of_int};
-ghost use Rattle.utils.specs.Interpolate.{line_at, interpolated, interpolatedWrap};
+ghost use Rattle.utils.specs.Interpolate.{line_at, interpolated, interpolated_wrap};
 
 // The entry at `index`, from 0 to 1, of `size` places.
 pub fn interpolate(table: &[f32], index: f32, size: f32) -> f32
@@ -15,7 +15,7 @@ pub fn interpolate(table: &[f32], index: f32, size: f32) -> f32
 
 // The same without the index's whole part; a negative index is clamped to 0.
 pub fn interpolate_wrap(table: &[f32], index: f32, size: f32) -> f32
-    ensures { result ≡ interpolatedWrap table.now index size }
+    ensures { result ≡ interpolated_wrap table.now index size }
 {
     let whole = numbers::i32_as_f32(numbers::f32_as_i32(index));
     interpolate(table, index - whole, size)

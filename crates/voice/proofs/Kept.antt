@@ -12,24 +12,24 @@ use lib.Ieee.{Float}
 use lib.Ieee.Bits.{is_true}
 use lib.Ieee.Fits.{and_i}
 use Rattle.patch.specs.declared.Patch.{Patch}
-use Rattle.patch.specs.Packed.{patchFits}
-use Rattle.patch_limits.specs.Ranges.{sampleRateFits}
+use Rattle.patch.specs.Packed.{patch_fits}
+use Rattle.patch_limits.specs.Ranges.{sample_rate_fits}
 use Rattle.algorithms.specs.declared.Call.{Call}
 use Rattle.algorithms.specs.declared.Plan.{Plan}
 use Rattle.algorithms.specs.declared.Compiled.{Compiled}
 use Rattle.algorithms.specs.Chain.{rendered}
-use Rattle.algorithms.specs.Plan.{call_of, noPlan, ready, unready, extended, refusal, planFrom, counted, planned}
-use Rattle.algorithms.specs.Plan.{samePlan, isPlanOf}
+use Rattle.algorithms.specs.Plan.{call_of, no_plan, ready, unready, extended, refusal, plan_from, counted, planned}
+use Rattle.algorithms.specs.Plan.{same_plan, is_plan_of}
 use Rattle.algorithms.specs.Table.{tabled, row_of, with_row, compiled}
-use Rattle.algorithms.proofs.Same.{same-plan-self}
-use Rattle.envelope_inner.specs.Envelope.{initialised, isStage, allStages}
+use Rattle.algorithms.proofs.Same.{same_plan_self}
+use Rattle.envelope_inner.specs.Envelope.{initialised, is_stage, all_stages}
 use Rattle.voice.specs.declared.Voice.{Voice}
 use Rattle.voice.specs.declared.Prepared.{Prepared}
 use Rattle.voice.specs.declared.Stored.{Stored}
-use Rattle.voice.specs.Voice.{voiceWith, freshVoice, noVoice, withPatch, withoutPatch, withSwitch}
-use Rattle.voice.specs.Answers.{patchSound, stateFits, prepared, initAnswer, loaded, notLoaded, setPatchAnswer}
-use Rattle.voice.specs.Answers.{takePatchAnswer, setTransposingAnswer, noPatch, patchAnswer}
-use Rattle.voice.proofs.States.{Fits, state-fits}
+use Rattle.voice.specs.Voice.{voice_with, fresh_voice, no_voice, with_patch, without_patch, with_switch}
+use Rattle.voice.specs.Answers.{patch_sound, state_fits, prepared, init_answer, loaded, not_loaded, set_patch_answer}
+use Rattle.voice.specs.Answers.{take_patch_answer, set_transposing_answer, no_patch, patch_answer}
+use Rattle.voice.proofs.States.{Fits, state_fits_lem}
 
 -- a number that is no 9
 abbrev pub NoNine : ℕ → Type 0
@@ -37,71 +37,71 @@ NoNine number = T (not (eqb number 9))
 
 -- what an answer leaves: an accepted voice, and a number that is no 9
 abbrev pub Kept : Voice → ℕ → Type 0
-Kept v number = T (stateFits v) × NoNine number
+Kept v number = T (state_fits v) × NoNine number
 
-pub fits-state : (v : Voice) → Fits v → T (stateFits v)
-unfolding stateFits
-fits-state v f =
-    let b = allStages v.operator_envelope in
-    let c = isStage v.pitch_envelope.stage in
-    let d = cond v.has_patch (patchSound v.operators v.patch v.row v.plan) v.dirty in
+pub fits_state : (v : Voice) → Fits v → T (state_fits v)
+unfolding state_fits
+fits_state v f =
+    let b = all_stages v.operator_envelope in
+    let c = is_stage v.pitch_envelope.stage in
+    let d = cond v.has_patch (patch_sound v.operators v.patch v.row v.plan) v.dirty in
     and_i (counted v.operators) (b && (c && d)) f.count
     (and_i b (c && d) f.stages (and_i c d (le→leb v.pitch_envelope.stage 3 f.pitch) f.patched))
 
 -- ---- a fresh voice
 
-fresh-fits : (operators : ℕ) (rate : Float) → T (counted operators) → T (stateFits (freshVoice operators rate))
-unfolding freshVoice voiceWith initialised allStages
-fresh-fits operators rate t = fits-state _ (record { count = t; stages = tt; pitch = omega arith; patched = tt })
+fresh_fits : (operators : ℕ) (rate : Float) → T (counted operators) → T (state_fits (fresh_voice operators rate))
+unfolding fresh_voice voice_with initialised all_stages
+fresh_fits operators rate t = fits_state _ (record { count = t; stages = tt; pitch = omega arith; patched = tt })
 
-pub init-fits : (operators : ℕ) (rate : Float) → T (counted operators) → T (sampleRateFits rate)
-    → T (stateFits (initAnswer operators rate).voice)
-unfolding initAnswer
-init-fits operators rate t u =
-    rw (is_true (counted operators) t, is_true (sampleRateFits rate) u) (fresh-fits operators rate t)
+pub init_fits : (operators : ℕ) (rate : Float) → T (counted operators) → T (sample_rate_fits rate)
+    → T (state_fits (init_answer operators rate).voice)
+unfolding init_answer
+init_fits operators rate t u =
+    rw (is_true (counted operators) t, is_true (sample_rate_fits rate) u) (fresh_fits operators rate t)
 
 module _ (operators : ℕ) (rate : Float) where
   -- the start, for each way that its tests go
   abbrev start : Bool → Bool → Prepared
-  start b c = cond b (cond c (prepared 0 (freshVoice operators rate)) (prepared 5 noVoice)) (prepared 2 noVoice)
+  start b c = cond b (cond c (prepared 0 (fresh_voice operators rate)) (prepared 5 no_voice)) (prepared 2 no_voice)
 
   -- a start that is not refused leaves such a voice
-  pub init-keeps : NoNine (initAnswer operators rate).number
-      × ((initAnswer operators rate).number ≡ 0 → T (stateFits (initAnswer operators rate).voice))
-  unfolding initAnswer
-  init-keeps = go (counted operators) (sampleRateFits rate) refl
+  pub init_keeps : NoNine (init_answer operators rate).number
+      × ((init_answer operators rate).number ≡ 0 → T (state_fits (init_answer operators rate).voice))
+  unfolding init_answer
+  init_keeps = go (counted operators) (sample_rate_fits rate) refl
     where
       go : (b c : Bool) → counted operators ≡ b
-          → NoNine (start b c).number × ((start b c).number ≡ 0 → T (stateFits (start b c).voice))
-      go true true e = (tt, λ z. fresh-fits operators rate (subst T (sym e) tt))
+          → NoNine (start b c).number × ((start b c).number ≡ 0 → T (state_fits (start b c).voice))
+      go true true e = (tt, λ z. fresh_fits operators rate (subst T (sym e) tt))
       go true false e = (tt, λ z. absurd (omega arith))
       go false c e = (tt, λ z. absurd (omega arith))
 
   -- one that is refused hands out a voice of no operators
-  pub refused-init : ((initAnswer operators rate).number ≡ 0 → ⊥) → (initAnswer operators rate).voice ≡ noVoice
-  unfolding initAnswer
-  refused-init = go (counted operators) (sampleRateFits rate)
+  pub refused_init : ((init_answer operators rate).number ≡ 0 → ⊥) → (init_answer operators rate).voice ≡ no_voice
+  unfolding init_answer
+  refused_init = go (counted operators) (sample_rate_fits rate)
     where
-      go : (b c : Bool) → ((start b c).number ≡ 0 → ⊥) → (start b c).voice ≡ noVoice
+      go : (b c : Bool) → ((start b c).number ≡ 0 → ⊥) → (start b c).voice ≡ no_voice
       go true true n = absurd (n refl)
       go true false n = refl
       go false c n = refl
 
-pub no-voice-refused : stateFits noVoice ≡ false
-unfolding stateFits noVoice voiceWith counted
-no-voice-refused = refl
+pub no_voice_refused : state_fits no_voice ≡ false
+unfolding state_fits no_voice voice_with counted
+no_voice_refused = refl
 
 -- ---- a patch
 
 -- a row is refused with 3 or 4, a table with 2
-walk-number : (operators : ℕ) (os : List ℕ) (inside first : ℕ) (p : Plan)
-    → (planFrom operators inside first p os).number ≤ 4
-unfolding planFrom
-walk-number operators [] inside first p = omega arith
-walk-number operators (o ∷ os) (suc inside) first p = walk-number operators os inside (suc first) p
-walk-number operators (o ∷ os) zero first p =
+walk_number : (operators : ℕ) (os : List ℕ) (inside first : ℕ) (p : Plan)
+    → (plan_from operators inside first p os).number ≤ 4
+unfolding plan_from
+walk_number operators [] inside first p = omega arith
+walk_number operators (o ∷ os) (suc inside) first p = walk_number operators os inside (suc first) p
+walk_number operators (o ∷ os) zero first p =
     pick (eqb n 0) (unready (ready p.calls p.count) c)
-    (walk-number operators os (n - 1) (suc first) (extended p c))
+    (walk_number operators os (n - 1) (suc first) (extended p c))
   where
     n : ℕ
     n = rendered operators (o ∷ os)
@@ -109,19 +109,19 @@ walk-number operators (o ∷ os) zero first p =
     c : Call
     c = call_of first n (o ∷ os)
 
-    pick : (b d : Bool) → (planFrom operators (n - 1) (suc first) (extended p c) os).number ≤ 4
+    pick : (b d : Bool) → (plan_from operators (n - 1) (suc first) (extended p c) os).number ≤ 4
         → (cond b (refusal 3 first)
-        (cond d (refusal 4 first) (planFrom operators (n - 1) (suc first) (extended p c) os))).number ≤ 4
+        (cond d (refusal 4 first) (plan_from operators (n - 1) (suc first) (extended p c) os))).number ≤ 4
     pick true d h = omega arith
     pick false true h = omega arith
     pick false false h = h
 
-planned-number : (operators : ℕ) (row : List ℕ) → (planned operators row).number ≤ 4
+planned_number : (operators : ℕ) (row : List ℕ) → (planned operators row).number ≤ 4
 unfolding planned
-planned-number operators row = go (counted operators)
+planned_number operators row = go (counted operators)
   where
-    go : (b : Bool) → (cond b (planFrom operators 0 0 noPlan (take operators row)) (refusal 2 0)).number ≤ 4
-    go true = walk-number operators (take operators row) 0 0 noPlan
+    go : (b : Bool) → (cond b (plan_from operators 0 0 no_plan (take operators row)) (refusal 2 0)).number ≤ 4
+    go true = walk_number operators (take operators row) 0 0 no_plan
     go false = omega arith
 
 -- what is compiled is a row that is planned, with its plan, or a number from 2 to 4
@@ -139,71 +139,71 @@ compiles operators table row = go (tabled operators table row)
 
     go : (b : Bool) → Compiles operators (with_row bytes (cond b (planned operators bytes) (refusal 2 0)))
     go true = record {
-      small = planned-number operators bytes;
+      small = planned_number operators bytes;
       accepted = λ e. rw (eq-eqb (planned operators bytes).number 0 e) e;
       same = λ e. rw (eq-eqb (planned operators bytes).number 0 e);
     }
     go false = record { small = omega arith; accepted = λ e. absurd (omega arith); same = λ e. absurd (omega arith) }
 
-small-no-nine : (n : ℕ) → n ≤ 4 → NoNine n
-small-no-nine n h = rw (ne_eqb n 9 (λ e. omega arith)) tt
+small_no_nine : (n : ℕ) → n ≤ 4 → NoNine n
+small_no_nine n h = rw (ne_eqb n 9 (λ e. omega arith)) tt
 
-module _ (v : Voice) (t : T (stateFits v)) where
-  with-patch-fits : (p : Patch) (row : List ℕ) (plan : Plan) → T (patchFits p)
+module _ (v : Voice) (t : T (state_fits v)) where
+  with_patch_fits : (p : Patch) (row : List ℕ) (plan : Plan) → T (patch_fits p)
       → (planned v.operators row).number ≡ 0 → plan ≡ (planned v.operators row).plan
-      → T (stateFits (withPatch v true p row plan))
-  unfolding withPatch patchSound isPlanOf
-  with-patch-fits p row plan u e s =
-      let f = state-fits v t in
+      → T (state_fits (with_patch v true p row plan))
+  unfolding with_patch patch_sound is_plan_of
+  with_patch_fits p row plan u e s =
+      let f = state_fits_lem v t in
       let r = planned v.operators row in
-      fits-state _ (record {
+      fits_state _ (record {
         count = f.count;
         stages = f.stages;
         pitch = f.pitch;
-        patched = and_i (patchFits p) (eqb r.number 0 && samePlan plan r.plan) u
-            (rw (s, eq-eqb r.number 0 e, same-plan-self r.plan) tt);
+        patched = and_i (patch_fits p) (eqb r.number 0 && same_plan plan r.plan) u
+            (rw (s, eq-eqb r.number 0 e, same_plan_self r.plan) tt);
       })
 
-  without-patch-fits : T (stateFits (withoutPatch v))
-  unfolding withoutPatch withPatch
-  without-patch-fits =
-      let f = state-fits v t in
-      fits-state _ (record { count = f.count; stages = f.stages; pitch = f.pitch; patched = tt })
+  without_patch_fits : T (state_fits (without_patch v))
+  unfolding without_patch with_patch
+  without_patch_fits =
+      let f = state_fits_lem v t in
+      fits_state _ (record { count = f.count; stages = f.stages; pitch = f.pitch; patched = tt })
 
-  pub set-patch-keeps : (p : Patch) (table : List ℕ)
-      → Kept (setPatchAnswer v p table).voice (setPatchAnswer v p table).number
-  unfolding setPatchAnswer loaded
-  set-patch-keeps p table = rw (is_true (stateFits v) t) (go (patchFits p) refl)
+  pub set_patch_keeps : (p : Patch) (table : List ℕ)
+      → Kept (set_patch_answer v p table).voice (set_patch_answer v p table).number
+  unfolding set_patch_answer loaded
+  set_patch_keeps p table = rw (is_true (state_fits v) t) (go (patch_fits p) refl)
     where
       c : Compiled
       c = compiled v.operators table p.algorithm
 
-      pick : (b : Bool) → eqb c.number 0 ≡ b → patchFits p ≡ true
-          → T (stateFits (cond b (withPatch v true p c.row c.plan) v))
+      pick : (b : Bool) → eqb c.number 0 ≡ b → patch_fits p ≡ true
+          → T (state_fits (cond b (with_patch v true p c.row c.plan) v))
       pick true e f =
           let k = compiles v.operators table p.algorithm in
           let z = eqb-true c.number 0 e in
-          with-patch-fits p c.row c.plan (subst T (sym f) tt) (k.accepted z) (k.same z)
+          with_patch_fits p c.row c.plan (subst T (sym f) tt) (k.accepted z) (k.same z)
       pick false e f = t
 
-      go : (b : Bool) → patchFits p ≡ b
-          → Kept (cond b (loaded v p c) (notLoaded 6 v)).voice (cond b (loaded v p c) (notLoaded 6 v)).number
+      go : (b : Bool) → patch_fits p ≡ b
+          → Kept (cond b (loaded v p c) (not_loaded 6 v)).voice (cond b (loaded v p c) (not_loaded 6 v)).number
       go true f = (
         pick (eqb c.number 0) refl f,
-        small-no-nine c.number (compiles v.operators table p.algorithm).small,
+        small_no_nine c.number (compiles v.operators table p.algorithm).small,
       )
       go false f = (t, tt)
 
-  pub take-patch-keeps : Kept (takePatchAnswer v).voice (takePatchAnswer v).number
-  unfolding takePatchAnswer
-  take-patch-keeps = rw (is_true (stateFits v) t) (without-patch-fits, tt)
+  pub take_patch_keeps : Kept (take_patch_answer v).voice (take_patch_answer v).number
+  unfolding take_patch_answer
+  take_patch_keeps = rw (is_true (state_fits v) t) (without_patch_fits, tt)
 
   -- a voice without a patch is dirty already
-  with-switch-fits : (on : Bool) → T (stateFits (withSwitch v on))
-  unfolding withSwitch
-  with-switch-fits on =
-      let f = state-fits v t in
-      fits-state _ (record {
+  with_switch_fits : (on : Bool) → T (state_fits (with_switch v on))
+  unfolding with_switch
+  with_switch_fits on =
+      let f = state_fits_lem v t in
+      fits_state _ (record {
         count = f.count;
         stages = f.stages;
         pitch = f.pitch;
@@ -211,23 +211,23 @@ module _ (v : Voice) (t : T (stateFits v)) where
       })
     where
       sound : Bool
-      sound = patchSound v.operators v.patch v.row v.plan
+      sound = patch_sound v.operators v.patch v.row v.plan
 
       go : (b : Bool) → T (cond b sound v.dirty) → T (cond b sound true)
       go true s = s
       go false s = tt
 
-  pub set-transposing-keeps : (on : Bool)
-      → Kept (setTransposingAnswer v on).voice (setTransposingAnswer v on).number
-  unfolding setTransposingAnswer
-  set-transposing-keeps on = rw (is_true (stateFits v) t) (with-switch-fits on, tt)
+  pub set_transposing_keeps : (on : Bool)
+      → Kept (set_transposing_answer v on).voice (set_transposing_answer v on).number
+  unfolding set_transposing_answer
+  set_transposing_keeps on = rw (is_true (state_fits v) t) (with_switch_fits on, tt)
 
-  pub patch-no-nine : NoNine (patchAnswer v).number
-  unfolding patchAnswer
-  patch-no-nine = rw (is_true (stateFits v) t) (go v.has_patch)
+  pub patch_no_nine : NoNine (patch_answer v).number
+  unfolding patch_answer
+  patch_no_nine = rw (is_true (state_fits v) t) (go v.has_patch)
     where
       answer : Bool → Stored
-      answer b = cond b (record { number = 0; has = true; patch = v.patch }) (noPatch 0)
+      answer b = cond b (record { number = 0; has = true; patch = v.patch }) (no_patch 0)
 
       go : (b : Bool) → NoNine (answer b).number
       go true = tt

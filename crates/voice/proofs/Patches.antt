@@ -6,72 +6,72 @@ use mathlib.Core.List.{List, [], ◌∷◌}
 use Prim.Native.Nat.{ℕ}
 use borrow.Author.Tests.{eq-eqb, ne_eqb}
 use Rattle.patch.specs.declared.Patch.{Patch}
-use Rattle.patch.specs.Form.{zeroPatch}
-use Rattle.patch.specs.Packed.{patchFits}
+use Rattle.patch.specs.Form.{zero_patch}
+use Rattle.patch.specs.Packed.{patch_fits}
 use Rattle.algorithms.specs.declared.Compiled.{Compiled}
 use Rattle.algorithms.specs.declared.Plan.{Plan}
-use Rattle.algorithms.specs.Plan.{noPlan}
+use Rattle.algorithms.specs.Plan.{no_plan}
 use Rattle.algorithms.specs.Table.{six, compiled}
 use Rattle.voice.specs.declared.Voice.{Voice}
 use Rattle.voice.specs.declared.Loaded.{Loaded}
-use Rattle.voice.specs.Voice.{withPatch, withoutPatch, withSwitch}
-use Rattle.voice.specs.Answers.{stateFits, loaded, notLoaded, setPatchAnswer, prepared, takePatchAnswer}
-use Rattle.voice.specs.Answers.{patchAnswer, setTransposingAnswer}
+use Rattle.voice.specs.Voice.{with_patch, without_patch, with_switch}
+use Rattle.voice.specs.Answers.{state_fits, loaded, not_loaded, set_patch_answer, prepared, take_patch_answer}
+use Rattle.voice.specs.Answers.{patch_answer, set_transposing_answer}
 
 module _ (v : Voice) (p : Patch) (c : Compiled) where
-  pub load-refused : (c.number ≡ 0 → ⊥) → record { number = c.number; at = c.at; voice = v } ≡ loaded v p c
+  pub load_refused : (c.number ≡ 0 → ⊥) → record { number = c.number; at = c.at; voice = v } ≡ loaded v p c
   unfolding loaded
-  load-refused h = simp (ne_eqb c.number 0 h)
+  load_refused h = simp (ne_eqb c.number 0 h)
 
-  pub load-accepted : c.number ≡ 0 → {w : Voice} → w ≡ withPatch v true p c.row c.plan → record { number = 0; at = c.at; voice = w } ≡ loaded v p c
+  pub load_accepted : c.number ≡ 0 → {w : Voice} → w ≡ with_patch v true p c.row c.plan → record { number = 0; at = c.at; voice = w } ≡ loaded v p c
   unfolding loaded
-  load-accepted h e = simp (eq-eqb c.number 0 h, h, e)
+  load_accepted h e = simp (eq-eqb c.number 0 h, h, e)
 
 module _ (v : Voice) (p : Patch) (table : List ℕ) where
-  pub set-patch-9 : stateFits v ≡ false → notLoaded 9 v ≡ setPatchAnswer v p table
-  unfolding setPatchAnswer
-  set-patch-9 h = rw h refl
+  pub set_patch_9 : state_fits v ≡ false → not_loaded 9 v ≡ set_patch_answer v p table
+  unfolding set_patch_answer
+  set_patch_9 h = rw h refl
 
-  module _ (state : stateFits v ≡ true) where
-    pub set-patch-6 : patchFits p ≡ false → notLoaded 6 v ≡ setPatchAnswer v p table
-    unfolding setPatchAnswer
-    set-patch-6 h = rw (state, h) refl
+  module _ (state : state_fits v ≡ true) where
+    pub set_patch_6 : patch_fits p ≡ false → not_loaded 6 v ≡ set_patch_answer v p table
+    unfolding set_patch_answer
+    set_patch_6 h = rw (state, h) refl
 
-    pub set-patch-on : patchFits p ≡ true → {c : Compiled} {r : Loaded} → c ≡ compiled v.operators table p.algorithm → r ≡ loaded v p c
-        → r ≡ setPatchAnswer v p table
-    unfolding setPatchAnswer
-    set-patch-on h ec er = rw (state, h, er, ec) refl
+    pub set_patch_on : patch_fits p ≡ true → {c : Compiled} {r : Loaded} → c ≡ compiled v.operators table p.algorithm → r ≡ loaded v p c
+        → r ≡ set_patch_answer v p table
+    unfolding set_patch_answer
+    set_patch_on h ec er = rw (state, h, er, ec) refl
 
 module _ (v : Voice) where
-  pub take-patch-9 : stateFits v ≡ false → prepared 9 v ≡ takePatchAnswer v
-  unfolding takePatchAnswer
-  take-patch-9 h = rw h refl
+  pub take_patch_9 : state_fits v ≡ false → prepared 9 v ≡ take_patch_answer v
+  unfolding take_patch_answer
+  take_patch_9 h = rw h refl
 
-  pub take-patch-on : stateFits v ≡ true → {w : Voice} {p : Patch} {plan : Plan} → p ≡ zeroPatch → plan ≡ noPlan → w ≡ withPatch v false p (0 ∷ 0 ∷ 0 ∷ 0 ∷ 0 ∷ 0 ∷ []) plan
-      → prepared 0 w ≡ takePatchAnswer v
-  unfolding takePatchAnswer withoutPatch six
-  take-patch-on h ep el ew = rw (h, ew, ep, el) refl
+  pub take_patch_on : state_fits v ≡ true → {w : Voice} {p : Patch} {plan : Plan} → p ≡ zero_patch → plan ≡ no_plan → w ≡ with_patch v false p (0 ∷ 0 ∷ 0 ∷ 0 ∷ 0 ∷ 0 ∷ []) plan
+      → prepared 0 w ≡ take_patch_answer v
+  unfolding take_patch_answer without_patch six
+  take_patch_on h ep el ew = rw (h, ew, ep, el) refl
 
-  pub transposing-9 : (on : Bool) → stateFits v ≡ false → prepared 9 v ≡ setTransposingAnswer v on
-  unfolding setTransposingAnswer
-  transposing-9 on h = rw h refl
+  pub transposing_9 : (on : Bool) → state_fits v ≡ false → prepared 9 v ≡ set_transposing_answer v on
+  unfolding set_transposing_answer
+  transposing_9 on h = rw h refl
 
-  pub transposing-on : (on : Bool) → stateFits v ≡ true → {w : Voice} → w ≡ withSwitch v on
-      → prepared 0 w ≡ setTransposingAnswer v on
-  unfolding setTransposingAnswer
-  transposing-on on h e = rw (h, e) refl
+  pub transposing_on : (on : Bool) → state_fits v ≡ true → {w : Voice} → w ≡ with_switch v on
+      → prepared 0 w ≡ set_transposing_answer v on
+  unfolding set_transposing_answer
+  transposing_on on h e = rw (h, e) refl
 
-  pub patch-9 : stateFits v ≡ false → {p : Patch} → p ≡ zeroPatch
-      → record { number = 9; has = false; patch = p } ≡ patchAnswer v
-  unfolding patchAnswer
-  patch-9 h e = rw (h, e) refl
+  pub patch_9 : state_fits v ≡ false → {p : Patch} → p ≡ zero_patch
+      → record { number = 9; has = false; patch = p } ≡ patch_answer v
+  unfolding patch_answer
+  patch_9 h e = rw (h, e) refl
 
-  module _ (state : stateFits v ≡ true) where
-    pub patch-none : v.has_patch ≡ false → {p : Patch} → p ≡ zeroPatch
-        → record { number = 0; has = false; patch = p } ≡ patchAnswer v
-    unfolding patchAnswer
-    patch-none h e = rw (state, h, e) refl
+  module _ (state : state_fits v ≡ true) where
+    pub patch_none : v.has_patch ≡ false → {p : Patch} → p ≡ zero_patch
+        → record { number = 0; has = false; patch = p } ≡ patch_answer v
+    unfolding patch_answer
+    patch_none h e = rw (state, h, e) refl
 
-    pub patch-there : v.has_patch ≡ true → record { number = 0; has = true; patch = v.patch } ≡ patchAnswer v
-    unfolding patchAnswer
-    patch-there h = rw (state, h) refl
+    pub patch_there : v.has_patch ≡ true → record { number = 0; has = true; patch = v.patch } ≡ patch_answer v
+    unfolding patch_answer
+    patch_there h = rw (state, h) refl

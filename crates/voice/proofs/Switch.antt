@@ -7,24 +7,24 @@ use Prim.Native.Nat.{ℕ}
 use lib.Dec.{eqb}
 use lib.Ieee.{Float}
 use Rattle.patch.specs.declared.Patch.{Patch}
-use Rattle.patch.specs.Packed.{patchFits}
-use Rattle.patch_limits.specs.Ranges.{sampleRateFits}
+use Rattle.patch.specs.Packed.{patch_fits}
+use Rattle.patch_limits.specs.Ranges.{sample_rate_fits}
 use Rattle.algorithms.specs.declared.Compiled.{Compiled}
 use Rattle.algorithms.specs.Plan.{counted}
 use Rattle.algorithms.specs.Table.{compiled}
 use Rattle.voice.specs.declared.Voice.{Voice}
 use Rattle.voice.specs.declared.Prepared.{Prepared}
 use Rattle.voice.specs.declared.Loaded.{Loaded}
-use Rattle.voice.specs.Voice.{voiceWith, freshVoice, noVoice, withPatch, withoutPatch, withSwitch}
-use Rattle.voice.specs.Answers.{stateFits, prepared, initAnswer, loaded, notLoaded, setPatchAnswer}
-use Rattle.voice.specs.Answers.{takePatchAnswer, setTransposingAnswer}
+use Rattle.voice.specs.Voice.{voice_with, fresh_voice, no_voice, with_patch, without_patch, with_switch}
+use Rattle.voice.specs.Answers.{state_fits, prepared, init_answer, loaded, not_loaded, set_patch_answer}
+use Rattle.voice.specs.Answers.{take_patch_answer, set_transposing_answer}
 
-pub init-off : (operators : ℕ) (rate : Float) → (initAnswer operators rate).voice.transposing ≡ false
-unfolding initAnswer freshVoice noVoice voiceWith
-init-off operators rate = go (counted operators) (sampleRateFits rate)
+pub init_off : (operators : ℕ) (rate : Float) → (init_answer operators rate).voice.transposing ≡ false
+unfolding init_answer fresh_voice no_voice voice_with
+init_off operators rate = go (counted operators) (sample_rate_fits rate)
   where
     start : Bool → Bool → Prepared
-    start b c = cond b (cond c (prepared 0 (freshVoice operators rate)) (prepared 5 noVoice)) (prepared 2 noVoice)
+    start b c = cond b (cond c (prepared 0 (fresh_voice operators rate)) (prepared 5 no_voice)) (prepared 2 no_voice)
 
     go : (b c : Bool) → (start b c).voice.transposing ≡ false
     go true true = refl
@@ -32,33 +32,33 @@ init-off operators rate = go (counted operators) (sampleRateFits rate)
     go false c = refl
 
 module _ (v : Voice) where
-  pub set-patch-switch : (p : Patch) (table : List ℕ)
-      → (setPatchAnswer v p table).voice.transposing ≡ v.transposing
-  unfolding setPatchAnswer loaded withPatch
-  set-patch-switch p table = go (stateFits v) (patchFits p) (eqb c.number 0)
+  pub set_patch_switch : (p : Patch) (table : List ℕ)
+      → (set_patch_answer v p table).voice.transposing ≡ v.transposing
+  unfolding set_patch_answer loaded with_patch
+  set_patch_switch p table = go (state_fits v) (patch_fits p) (eqb c.number 0)
     where
       c : Compiled
       c = compiled v.operators table p.algorithm
 
       set : Bool → Loaded
-      set b = record { number = c.number; at = c.at; voice = cond b (withPatch v true p c.row c.plan) v }
+      set b = record { number = c.number; at = c.at; voice = cond b (with_patch v true p c.row c.plan) v }
 
-      go : (a b d : Bool) → (cond a (cond b (set d) (notLoaded 6 v)) (notLoaded 9 v)).voice.transposing ≡ v.transposing
+      go : (a b d : Bool) → (cond a (cond b (set d) (not_loaded 6 v)) (not_loaded 9 v)).voice.transposing ≡ v.transposing
       go true true true = refl
       go true true false = refl
       go true false d = refl
       go false b d = refl
 
-  pub take-patch-switch : (takePatchAnswer v).voice.transposing ≡ v.transposing
-  unfolding takePatchAnswer withoutPatch withPatch
-  take-patch-switch = go (stateFits v)
+  pub take_patch_switch : (take_patch_answer v).voice.transposing ≡ v.transposing
+  unfolding take_patch_answer without_patch with_patch
+  take_patch_switch = go (state_fits v)
     where
-      go : (b : Bool) → (cond b (prepared 0 (withoutPatch v)) (prepared 9 v)).voice.transposing ≡ v.transposing
+      go : (b : Bool) → (cond b (prepared 0 (without_patch v)) (prepared 9 v)).voice.transposing ≡ v.transposing
       go true = refl
       go false = refl
 
   -- after its entry, also where the switch stays as it was
-  pub set-transposing-there : (on : Bool) → stateFits v ≡ true
-      → ((setTransposingAnswer v on).voice.transposing ≡ on) × ((setTransposingAnswer v on).voice.dirty ≡ true)
-  unfolding setTransposingAnswer withSwitch
-  set-transposing-there on e = rw e (refl, refl)
+  pub set_transposing_there : (on : Bool) → state_fits v ≡ true
+      → ((set_transposing_answer v on).voice.transposing ≡ on) × ((set_transposing_answer v on).voice.dirty ≡ true)
+  unfolding set_transposing_answer with_switch
+  set_transposing_there on e = rw e (refl, refl)

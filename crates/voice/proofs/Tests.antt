@@ -9,10 +9,10 @@ use lib.Dec.{leb}
 use lib.ListN.{length}
 use mathlib.Core.Bool.{◌&&◌, and_assoc, and-true}
 use Rattle.envelope_inner.specs.declared.Envelope.{Envelope}
-use Rattle.envelope_inner.specs.Envelope.{allStages}
+use Rattle.envelope_inner.specs.Envelope.{all_stages}
 use Rattle.patch.specs.declared.Patch.{Patch}
-use Rattle.patch.specs.Packed.{patchFits, checkOf}
-use Rattle.voice_setup.specs.Setup.{envelopeAt}
+use Rattle.patch.specs.Packed.{patch_fits, check_of}
+use Rattle.voice_setup.specs.Setup.{envelope_at}
 
 -- a refusal's test s, as a call gives it in u
 module _ {u s : Bool} (e : u ≡ s) where
@@ -23,34 +23,34 @@ module _ {u s : Bool} (e : u ≡ s) where
   accepted h = sym e ∙ not-false u h
 
 -- a patch's check as a number
-module _ (p : Patch) {n : ℕ} (e : n ≡ checkOf p) where
-  pub check-refused : (n ≡ 0 → ⊥) → patchFits p ≡ false
-  unfolding checkOf
-  check-refused h = go (patchFits p) refl
+module _ (p : Patch) {n : ℕ} (e : n ≡ check_of p) where
+  pub check_refused : (n ≡ 0 → ⊥) → patch_fits p ≡ false
+  unfolding check_of
+  check_refused h = go (patch_fits p) refl
     where
-      go : (b : Bool) → patchFits p ≡ b → patchFits p ≡ false
+      go : (b : Bool) → patch_fits p ≡ b → patch_fits p ≡ false
       go false q = q
       go true q = absurd (h (e ∙ simp q))
 
-  pub check-accepted : n ≡ 0 → patchFits p ≡ true
-  unfolding checkOf
-  check-accepted h = go (patchFits p) refl
+  pub check_accepted : n ≡ 0 → patch_fits p ≡ true
+  unfolding check_of
+  check_accepted h = go (patch_fits p) refl
     where
-      go : (b : Bool) → patchFits p ≡ b → patchFits p ≡ true
+      go : (b : Bool) → patch_fits p ≡ b → patch_fits p ≡ true
       go true q = q
       go false q = let z : n ≡ 6 = e ∙ simp q in absurd (omega arith)
 
 -- six stages, one by one
 abbrev fit : List Envelope → ℕ → Bool
-fit es i = leb (envelopeAt es i).stage 3
+fit es i = leb (envelope_at es i).stage 3
 
-pub six-stages : (es : List Envelope) → length es ≡ 6 → (fit es 0 && fit es 1 && fit es 2 && fit es 3 && fit es 4 && fit es 5) ≡ allStages es
-unfolding allStages
-six-stages (a ∷ b ∷ c ∷ d ∷ e ∷ f ∷ []) h = simp (and_assoc, and-true)
-six-stages [] h = absurd (omega arith)
-six-stages (a ∷ []) h = absurd (omega arith)
-six-stages (a ∷ b ∷ []) h = absurd (omega arith)
-six-stages (a ∷ b ∷ c ∷ []) h = absurd (omega arith)
-six-stages (a ∷ b ∷ c ∷ d ∷ []) h = absurd (omega arith)
-six-stages (a ∷ b ∷ c ∷ d ∷ e ∷ []) h = absurd (omega arith)
-six-stages (a ∷ b ∷ c ∷ d ∷ e ∷ f ∷ g ∷ l) h = absurd (omega arith)
+pub six_stages : (es : List Envelope) → length es ≡ 6 → (fit es 0 && fit es 1 && fit es 2 && fit es 3 && fit es 4 && fit es 5) ≡ all_stages es
+unfolding all_stages
+six_stages (a ∷ b ∷ c ∷ d ∷ e ∷ f ∷ []) h = simp (and_assoc, and-true)
+six_stages [] h = absurd (omega arith)
+six_stages (a ∷ []) h = absurd (omega arith)
+six_stages (a ∷ b ∷ []) h = absurd (omega arith)
+six_stages (a ∷ b ∷ c ∷ []) h = absurd (omega arith)
+six_stages (a ∷ b ∷ c ∷ d ∷ []) h = absurd (omega arith)
+six_stages (a ∷ b ∷ c ∷ d ∷ e ∷ []) h = absurd (omega arith)
+six_stages (a ∷ b ∷ c ∷ d ∷ e ∷ f ∷ g ∷ l) h = absurd (omega arith)

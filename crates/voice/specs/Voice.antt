@@ -3,9 +3,9 @@ use Rattle.std.specs.Prelude.{ℕ, Bool, true, false, List, [], ◌∷◌, Float
 use Rattle.numbers.specs.F32.{◌⊗◌, ◌⊘◌, decimal}
 use Rattle.dx_units_inner.specs.declared.Ratio.TheVariants.{Note}
 use Rattle.patch.specs.declared.Patch.{Patch}
-use Rattle.patch.specs.Form.{zeroPatch}
+use Rattle.patch.specs.Form.{zero_patch}
 use Rattle.algorithms.specs.declared.Plan.{Plan}
-use Rattle.algorithms.specs.Plan.{noPlan}
+use Rattle.algorithms.specs.Plan.{no_plan}
 use Rattle.algorithms.specs.Table.{six}
 use Rattle.envelope_inner.specs.declared.Envelope.{Envelope}
 use Rattle.envelope_inner.specs.Envelope.{initialised}
@@ -16,13 +16,13 @@ use Rattle.voice_setup.specs.declared.Tuned.{Tuned}
 use Rattle.voice.specs.declared.Voice.{Voice}
 
 -- six times the same
-abbrev pub sixOf : {A : Type 0} → A → List A
-sixOf a = a ∷ a ∷ a ∷ a ∷ a ∷ a ∷ []
+abbrev pub six_of : {A : Type 0} → A → List A
+six_of a = a ∷ a ∷ a ∷ a ∷ a ∷ a ∷ []
 
 -- a voice that has played nothing: dirty, without a patch, its switch off, note 48, velocity 10; envelopes are scaled
 -- from 44,100 Hz
-unfoldable pub voiceWith : ℕ → Float → Float → Float → Voice
-voiceWith operators sampleRate oneHz a0 =
+unfoldable pub voice_with : ℕ → Float → Float → Float → Voice
+voice_with operators sampleRate oneHz a0 =
     let e = initialised (decimal 44100 0 ⊗ oneHz) in
     record {
       operators = operators;
@@ -30,29 +30,29 @@ voiceWith operators sampleRate oneHz a0 =
       one_hz = oneHz;
       a0 = a0;
       gate = false;
-      operator = sixOf still;
-      operator_envelope = sixOf e;
+      operator = six_of still;
+      operator_envelope = six_of e;
       pitch_envelope = e;
       normalized_velocity = decimal 10 0;
       note = decimal 48 0;
-      ratios = sixOf (record { ratio = Note (decimal 0 0) });
-      level_headroom = sixOf (decimal 0 0);
+      ratios = six_of (record { ratio = Note (decimal 0 0) });
+      level_headroom = six_of (decimal 0 0);
       feedback_state = record { previous_0 = decimal 0 0; previous_1 = decimal 0 0 };
       has_patch = false;
-      patch = zeroPatch;
+      patch = zero_patch;
       row = six [];
-      plan = noPlan;
+      plan = no_plan;
       dirty = true;
       transposing = false;
     }
 
 -- a fresh voice: 1 Hz and the A of 55 Hz in turns a sample
-unfoldable pub freshVoice : ℕ → Float → Voice
-freshVoice operators sampleRate = voiceWith operators sampleRate (decimal 1 0 ⊘ sampleRate) (decimal 55 0 ⊘ sampleRate)
+unfoldable pub fresh_voice : ℕ → Float → Voice
+fresh_voice operators sampleRate = voice_with operators sampleRate (decimal 1 0 ⊘ sampleRate) (decimal 55 0 ⊘ sampleRate)
 
 -- what a refused start hands back: a voice of no operators
-unfoldable pub noVoice : Voice
-noVoice = voiceWith 0 (decimal 0 0) (decimal 0 0) (decimal 0 0)
+unfoldable pub no_voice : Voice
+no_voice = voice_with 0 (decimal 0 0) (decimal 0 0) (decimal 0 0)
 
 -- ---- a voice with other parts: what every change of a voice is said by
 
@@ -78,8 +78,8 @@ pub record Contents : Type 0 where
   pub row : List ℕ
   pub plan : Plan
 
-abbrev pub movingOf : Voice → Moving
-movingOf v = record {
+abbrev pub moving_of : Voice → Moving
+moving_of v = record {
   gate = v.gate;
   operator = v.operator;
   envelopes = v.operator_envelope;
@@ -89,11 +89,11 @@ movingOf v = record {
   feedback = v.feedback_state;
 }
 
-abbrev pub tuningsOf : Voice → Tunings
-tuningsOf v = record { ratios = v.ratios; headroom = v.level_headroom }
+abbrev pub tunings_of : Voice → Tunings
+tunings_of v = record { ratios = v.ratios; headroom = v.level_headroom }
 
-abbrev pub contentsOf : Voice → Contents
-contentsOf v = record { has = v.has_patch; patch = v.patch; row = v.row; plan = v.plan }
+abbrev pub contents_of : Voice → Contents
+contents_of v = record { has = v.has_patch; patch = v.patch; row = v.row; plan = v.plan }
 
 -- the same voice with these parts, dirty or clean, its switch on or off
 abbrev pub rebuilt : Voice → Moving → Tunings → Contents → Bool → Bool → Voice
@@ -120,15 +120,15 @@ rebuilt v m t c isDirty on = record {
 }
 
 -- the same voice, dirty, with another patch, row and plan or with none
-unfoldable pub withPatch : Voice → Bool → Patch → List ℕ → Plan → Voice
-withPatch v has p row plan =
-    rebuilt v (movingOf v) (tuningsOf v) (record { has = has; patch = p; row = row; plan = plan }) true
+unfoldable pub with_patch : Voice → Bool → Patch → List ℕ → Plan → Voice
+with_patch v has p row plan =
+    rebuilt v (moving_of v) (tunings_of v) (record { has = has; patch = p; row = row; plan = plan }) true
     v.transposing
 
 -- without a patch: the stored patch, row and plan are zero
-unfoldable pub withoutPatch : Voice → Voice
-withoutPatch v = withPatch v false zeroPatch (six []) noPlan
+unfoldable pub without_patch : Voice → Voice
+without_patch v = with_patch v false zero_patch (six []) no_plan
 
 -- the same voice, dirty, with its switch on or off
-unfoldable pub withSwitch : Voice → Bool → Voice
-withSwitch v on = rebuilt v (movingOf v) (tuningsOf v) (contentsOf v) true on
+unfoldable pub with_switch : Voice → Bool → Voice
+with_switch v on = rebuilt v (moving_of v) (tunings_of v) (contents_of v) true on

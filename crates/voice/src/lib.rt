@@ -3,10 +3,10 @@
 // its promise names the answer for every input: a refusal hands back the voice as it came. `voice_render` has its setup
 // and its blocks.
 ghost use Rattle.std.specs.Prelude.{◌≡◌};
-ghost use Rattle.envelope_inner.specs.Envelope.{allStages};
-ghost use Rattle.voice.specs.Voice.{voiceWith, withPatch, withSwitch};
-ghost use Rattle.voice.specs.Answers.{patchSound, stateFits, initAnswer, loaded, setPatchAnswer, takePatchAnswer};
-ghost use Rattle.voice.specs.Answers.{patchAnswer, setTransposingAnswer};
+ghost use Rattle.envelope_inner.specs.Envelope.{all_stages};
+ghost use Rattle.voice.specs.Voice.{voice_with, with_patch, with_switch};
+ghost use Rattle.voice.specs.Answers.{patch_sound, state_fits, init_answer, loaded, set_patch_answer, take_patch_answer};
+ghost use Rattle.voice.specs.Answers.{patch_answer, set_transposing_answer};
 
 use algorithms::{Compiled, Plan};
 use dx_units_inner::Ratio;
@@ -64,7 +64,7 @@ pub struct Stored {
 
 // A voice at rest, dirty and without a patch; of no operators where starting is refused.
 fn voice_with(operators: usize, sample_rate: f32, one_hz: f32, a0: f32) -> Voice
-    ensures { result ≡ voiceWith operators sample_rate one_hz a0 }
+    ensures { result ≡ voice_with operators sample_rate one_hz a0 }
 {
     // Envelope increments are written for 44,100 Hz, whatever the rate: the older instrument's.
     let e = envelope_inner::init(44100.0 * one_hz);
@@ -103,7 +103,7 @@ fn voice_with(operators: usize, sample_rate: f32, one_hz: f32, a0: f32) -> Voice
 
 // No envelope has a stage above 3.
 fn all_stages(e: [Envelope; 6]) -> bool
-    ensures { result ≡ allStages e }
+    ensures { result ≡ all_stages e }
 {
     (e[0].stage <= 3)
         & (e[1].stage <= 3)
@@ -115,7 +115,7 @@ fn all_stages(e: [Envelope; 6]) -> bool
 
 // A stored patch whose fields 6 accepts, with a row that gets neither 3 nor 4 and that row's plan.
 fn patch_sound(operators: usize, patch: Patch, row: [u8; 6], plan: Plan) -> bool
-    ensures { result ≡ patchSound operators patch row plan }
+    ensures { result ≡ patch_sound operators patch row plan }
 {
     if patch_limits::check(patch) != 0 {
         return false;
@@ -125,7 +125,7 @@ fn patch_sound(operators: usize, patch: Patch, row: [u8; 6], plan: Plan) -> bool
 
 // Number 9.
 pub fn state_fits(v: Voice) -> bool
-    ensures { result ≡ stateFits v }
+    ensures { result ≡ state_fits v }
 {
     if !algorithms::is_counted(v.operators) {
         return false;
@@ -149,7 +149,7 @@ pub fn state_fits(v: Voice) -> bool
 
 // A fresh voice of 4 or 6 operators.
 pub fn init(operators: usize, sample_rate: f32) -> Prepared
-    ensures { result ≡ initAnswer operators sample_rate }
+    ensures { result ≡ init_answer operators sample_rate }
 {
     if !algorithms::is_counted(operators) {
         return Prepared {
@@ -176,7 +176,7 @@ pub fn init(operators: usize, sample_rate: f32) -> Prepared
 
 // The voice with another patch or none, which the next block sets up.
 fn with_patch(v: Voice, has_patch: bool, patch: Patch, row: [u8; 6], plan: Plan) -> Voice
-    ensures { result ≡ withPatch v has_patch patch row plan }
+    ensures { result ≡ with_patch v has_patch patch row plan }
 {
     let mut w = v;
     w.has_patch = has_patch;
@@ -209,7 +209,7 @@ fn load(v: Voice, patch: Patch, c: Compiled) -> Loaded
 
 // A patch, with the row of the lent table that its algorithm names.
 pub fn set_patch(v: Voice, patch: Patch, table: &[u8]) -> Loaded
-    ensures { result ≡ setPatchAnswer v patch table.now }
+    ensures { result ≡ set_patch_answer v patch table.now }
 {
     if !state_fits(v) {
         return Loaded {
@@ -231,7 +231,7 @@ pub fn set_patch(v: Voice, patch: Patch, table: &[u8]) -> Loaded
 
 // No patch any more.
 pub fn take_patch(v: Voice) -> Prepared
-    ensures { result ≡ takePatchAnswer v }
+    ensures { result ≡ take_patch_answer v }
 {
     if !state_fits(v) {
         return Prepared {
@@ -249,7 +249,7 @@ pub fn take_patch(v: Voice) -> Prepared
 
 // The voice with its switch on or off, which the next block sets up.
 fn with_switch(v: Voice, on: bool) -> Voice
-    ensures { result ≡ withSwitch v on }
+    ensures { result ≡ with_switch v on }
 {
     let mut w = v;
     w.transposing = on;
@@ -260,7 +260,7 @@ fn with_switch(v: Voice, on: bool) -> Voice
 // Whether the patch's transpose moves the notes that blocks play. The voice is dirty then, also where the switch stays
 // as it was.
 pub fn set_transposing(v: Voice, on: bool) -> Prepared
-    ensures { result ≡ setTransposingAnswer v on }
+    ensures { result ≡ set_transposing_answer v on }
 {
     if !state_fits(v) {
         return Prepared {
@@ -276,7 +276,7 @@ pub fn set_transposing(v: Voice, on: bool) -> Prepared
 
 // The patch that the voice has, if it has one.
 pub fn patch(v: Voice) -> Stored
-    ensures { result ≡ patchAnswer v }
+    ensures { result ≡ patch_answer v }
 {
     if !state_fits(v) {
         return Stored {

@@ -7,15 +7,15 @@ use native.Mathlib.Omega.{arith}
 use mathlib.Core.List.{List}
 use lib.ListN.{length, get_or, take}
 use lib.Ieee.{Float}
-use Rattle.algorithms.specs.Plan.{noCall, planned}
+use Rattle.algorithms.specs.Plan.{no_call, planned}
 use Rattle.algorithms.specs.Accepted.{Sound}
 use Rattle.algorithms.specs.declared.Call.{Call}
-use Rattle.algorithms.proofs.Accepted.{planned-safe, planned-sound, planned-some, planned-few, accepted-six}
-use Rattle.algorithms.proofs.Accepted.{accepted-covering}
-use Rattle.voice_block.specs.Calls.{noOperator, Callable, Playable, ran}
+use Rattle.algorithms.proofs.Accepted.{planned_safe, planned_sound, planned_some, planned_few, accepted_six}
+use Rattle.algorithms.proofs.Accepted.{accepted_covering}
+use Rattle.voice_block.specs.Calls.{no_operator, Callable, Playable, ran}
 use Rattle.voice_block.specs.declared.Operators.{Operators}
-use Rattle.voice_block.proofs.Same.{same-sound}
-use Rattle.voice_block.proofs.Phases.{plan-phases, plan-others}
+use Rattle.voice_block.proofs.Same.{same_sound}
+use Rattle.voice_block.proofs.Phases.{plan_phases, plan_others}
 
 callable : (operators : ℕ) (c : Call) → operators ≤ 6 → 1 ≤ c.n → Sound operators c → Callable c
 callable operators c h some s = record {
@@ -28,46 +28,46 @@ callable operators c h some s = record {
 }
 
 -- what the runner requires
-pub accepted-playable : (operators : ℕ) (row : List ℕ) → (planned operators row).number ≡ 0
+pub accepted_playable : (operators : ℕ) (row : List ℕ) → (planned operators row).number ≡ 0
     → Playable (planned operators row).plan
-accepted-playable operators row e =
-    let six = accepted-six operators row e in
+accepted_playable operators row e =
+    let six = accepted_six operators row e in
     record {
-      most = omega (arith, planned-few operators row);
-      calls = λ k i. callable operators (get_or (planned operators row).plan.calls k noCall) six
-          (planned-some operators row k i) (planned-sound operators row k i);
+      most = omega (arith, planned_few operators row);
+      calls = λ k i. callable operators (get_or (planned operators row).plan.calls k no_call) six
+          (planned_some operators row k i) (planned_sound operators row k i);
     }
 
 module _ (operators : ℕ) (row : List ℕ) (pairs : List Float) (steps : List ℕ) (targets : List Float) (amount : ℕ)
     (v : Operators) (block : List Float) where
   -- the kernel of demand 3
-  pub planned-same : (other : List Float) → length block ≡ length other
+  pub planned_same : (other : List Float) → length block ≡ length other
       → take (length block / 4) block ≡ take (length block / 4) other
       → ((ran pairs (planned operators row).plan steps targets amount v block).operators
       ≡ (ran pairs (planned operators row).plan steps targets amount v other).operators)
       × (take (length block / 4) (ran pairs (planned operators row).plan steps targets amount v block).block
       ≡ take (length block / 4) (ran pairs (planned operators row).plan steps targets amount v other).block)
-  planned-same other h f =
-      same-sound pairs (planned operators row).plan steps targets amount v block other (planned-safe operators row) h f
+  planned_same other h f =
+      same_sound pairs (planned operators row).plan steps targets amount v block other (planned_safe operators row) h f
 
   -- of an accepted row
   module _ (l : length row ≡ 6) (e : (planned operators row).number ≡ 0) (six : length v.operator ≡ 6)
       (whole : length block % 4 ≡ 0) (j : ℕ) where
     -- the phases of the row's operators
-    pub accepted-phases : j < operators → (get_or v.operator j noOperator).phase < 2 ^ 32
+    pub accepted_phases : j < operators → (get_or v.operator j no_operator).phase < 2 ^ 32
         → (get_or (ran pairs (planned operators row).plan steps targets amount v block).operators.operator
-        j noOperator).phase
-        ≡ ((get_or v.operator j noOperator).phase + length block / 4 * get_or steps j 0) % 2 ^ 32
-    accepted-phases =
-        plan-phases pairs (planned operators row).plan steps targets amount operators v block
-        (accepted-covering operators row l e) (planned-sound operators row)
-        (omega (arith, accepted-six operators row e)) whole j
+        j no_operator).phase
+        ≡ ((get_or v.operator j no_operator).phase + length block / 4 * get_or steps j 0) % 2 ^ 32
+    accepted_phases =
+        plan_phases pairs (planned operators row).plan steps targets amount operators v block
+        (accepted_covering operators row l e) (planned_sound operators row)
+        (omega (arith, accepted_six operators row e)) whole j
 
     -- and the operators behind them
-    pub accepted-others : operators ≤ j
-        → get_or (ran pairs (planned operators row).plan steps targets amount v block).operators.operator j noOperator
-        ≡ get_or v.operator j noOperator
-    accepted-others =
-        plan-others pairs (planned operators row).plan steps targets amount operators v block
-        (accepted-covering operators row l e) (planned-sound operators row)
-        (omega (arith, accepted-six operators row e)) whole j
+    pub accepted_others : operators ≤ j
+        → get_or (ran pairs (planned operators row).plan steps targets amount v block).operators.operator j no_operator
+        ≡ get_or v.operator j no_operator
+    accepted_others =
+        plan_others pairs (planned operators row).plan steps targets amount operators v block
+        (accepted_covering operators row l e) (planned_sound operators row)
+        (omega (arith, accepted_six operators row e)) whole j

@@ -23,19 +23,19 @@ first : (n k : ℕ) (l : List Float) → length l ≡ suc k * n → length (take
 first n k l e = length-take-le n l (omega (arith, suc-mul k n))
 
 -- each part has its size
-pub size-split : (n k q : ℕ) (l : List Float) → q < k → length l ≡ k * n → length (get_or (split n k l) q []) ≡ n
+pub size_split : (n k q : ℕ) (l : List Float) → q < k → length l ≡ k * n → length (get_or (split n k l) q []) ≡ n
 unfolding split
-size-split n zero q l h e = absurd (not-suc-le-zero h)
-size-split n (suc k) zero l h e = first n k l e
-size-split n (suc k) (suc q) l h e = size-split n k q (drop n l) (le_of_suc-le-suc h) (rest n k l e)
+size_split n zero q l h e = absurd (not-suc-le-zero h)
+size_split n (suc k) zero l h e = first n k l e
+size_split n (suc k) (suc q) l h e = size_split n k q (drop n l) (le_of_suc-le-suc h) (rest n k l e)
 
 -- a part is read
-get-split : (n k q : ℕ) (l : List Float) → q < k → get_or (split n k l) q [] ≡ take n (drop (q * n) l)
+get_split : (n k q : ℕ) (l : List Float) → q < k → get_or (split n k l) q [] ≡ take n (drop (q * n) l)
 unfolding split
-get-split n zero q l h = absurd (not-suc-le-zero h)
-get-split n (suc k) zero l h = rw zero-mul
-get-split n (suc k) (suc q) l h =
-    get-split n k q (drop n l) (le_of_suc-le-suc h) ∙ rw (drop-drop, suc-mul, add_comm n (q * n))
+get_split n zero q l h = absurd (not-suc-le-zero h)
+get_split n (suc k) zero l h = rw zero-mul
+get_split n (suc k) (suc q) l h =
+    get_split n k q (drop n l) (le_of_suc-le-suc h) ∙ rw (drop-drop, suc-mul, add_comm n (q * n))
 
 -- a part is written
 set_split : (n k q : ℕ) (l new : List Float) → q < k → length l ≡ k * n → length new ≡ n
@@ -56,27 +56,27 @@ set_split n (suc k) (suc q) l new h e f =
     (set_split n k q (drop n l) new (le_of_suc-le-suc h) (rest n k l e) f))
 
 -- the parts make the whole
-pub joined-split : (n k : ℕ) (l : List Float) → length l ≡ k * n → joined (split n k l) ≡ l
+pub joined_split : (n k : ℕ) (l : List Float) → length l ≡ k * n → joined (split n k l) ≡ l
 unfolding split joined
-joined-split n zero [] e = refl
-joined-split n zero (x ∷ l) e = absurd (omega (arith, zero-mul n))
-joined-split n (suc k) l e =
-    ap (λ (t : List Float). take n l ++ t) (joined-split n k (drop n l) (rest n k l e)) ∙ take-append-drop n l
+joined_split n zero [] e = refl
+joined_split n zero (x ∷ l) e = absurd (omega (arith, zero-mul n))
+joined_split n (suc k) l e =
+    ap (λ (t : List Float). take n l ++ t) (joined_split n k (drop n l) (rest n k l e)) ∙ take-append-drop n l
 
 -- ---- at the places that the code computes: q's quarter starts at a, and ends n after it
 
 module _ (n q a : ℕ) (l : List Float) (h : q < 4) (w : length l ≡ 4 * n) (e : a ≡ q * n) where
   pub read_at : take (a + n - a) (drop a l) ≡ get_or (split n 4 l) q []
-  read_at = let k : a + n - a ≡ n = omega arith in rw (k, e) (sym (get-split n 4 q l h))
+  read_at = let k : a + n - a ≡ n = omega arith in rw (k, e) (sym (get_split n 4 q l h))
 
   length_at : length (take (a + n - a) (drop a l)) ≡ n
   length_at = length-take-le (a + n - a) (drop a l) (rw (length-drop a l) (omega (arith, within q 4 n h))) ∙ omega arith
 
-  pub write-at : (new : List Float) → length new ≡ length (take (a + n - a) (drop a l))
+  pub write_at : (new : List Float) → length new ≡ length (take (a + n - a) (drop a l))
       → split n 4 (put_mid a (a + n - a) l new) ≡ set (split n 4 l) q new
-  write-at new f = let k : a + n - a ≡ n = omega arith in rw (k, e) (set_split n 4 q l new h w (f ∙ length_at))
+  write_at new f = let k : a + n - a ≡ n = omega arith in rw (k, e) (set_split n 4 q l new h w (f ∙ length_at))
 
   -- what was copied aside is the quarter
-  pub aside-at : (aside : List Float) → take (length (take (a + n - a) (drop a l))) aside ≡ take (a + n - a) (drop a l)
+  pub aside_at : (aside : List Float) → take (length (take (a + n - a) (drop a l))) aside ≡ take (a + n - a) (drop a l)
       → take (n - 0) aside ≡ get_or (split n 4 l) q []
-  aside-at aside f = rw (sub-zero n) ((rw length_at at f) ∙ read_at)
+  aside_at aside f = rw (sub-zero n) ((rw length_at at f) ∙ read_at)

@@ -2,10 +2,10 @@
 -- the crate promises. Definitions only.
 use Rattle.std.specs.Prelude.{ℕ, zero, suc, ◌+◌, ◌/◌, ◌≤◌, ◌<◌, ◌≡◌, cond, List, [], ◌∷◌, eqb, length, get_or, set, Float}
 use Rattle.std.specs.Float.{nan}
-use Rattle.algorithms.specs.Plan.{noCall, reading}
+use Rattle.algorithms.specs.Plan.{no_call, reading}
 use Rattle.algorithms.specs.declared.Call.{Call}
 use Rattle.algorithms.specs.declared.Plan.{Plan}
-use Rattle.operator.specs.Sample.{lane_of, operatorOf, rampScale, feedbackScale}
+use Rattle.operator.specs.Sample.{lane_of, operator_of, ramp_scale, feedback_scale_of}
 use Rattle.operator.specs.Chain.{Source, Chain, written, ended}
 use Rattle.operator.specs.Chain.Source.{none, external, feedback}
 use Rattle.operator.specs.declared.Operator.{Operator}
@@ -21,27 +21,27 @@ pub record Setting : Type 0 where
   pub steps : List ℕ
   pub targets : List Float
   pub ramp : Float
-  pub feedback-scale : Float
+  pub feedback_scale_lem : Float
 
 -- what stands past the last operator: nothing asks for it
-abbrev pub noOperator : Operator
-noOperator = record { phase = 0; amplitude = nan }
+abbrev pub no_operator : Operator
+no_operator = record { phase = 0; amplitude = nan }
 
 -- operator i, as it enters the block
-unfoldable pub laneAt : Setting → List Operator → ℕ → Lane
-laneAt g os i = lane_of (get_or os i noOperator) (get_or g.steps i 0) (get_or g.targets i nan) g.ramp
+unfoldable pub lane_at : Setting → List Operator → ℕ → Lane
+lane_at g os i = lane_of (get_or os i no_operator) (get_or g.steps i 0) (get_or g.targets i nan) g.ramp
 
 -- n operators from `first` on
 unfoldable pub lanes_at : Setting → List Operator → ℕ → ℕ → List Lane
 lanes_at g os first zero = []
-lanes_at g os first (suc n) = laneAt g os first ∷ lanes_at g os (first + 1) n
+lanes_at g os first (suc n) = lane_at g os first ∷ lanes_at g os (first + 1) n
 
-unfoldable pub chainAt : Setting → Operators → ℕ → ℕ → Chain
-chainAt g v first n = record { lanes = lanes_at g v.operator first n; feedback = v.feedback_state }
+unfoldable pub chain_at : Setting → Operators → ℕ → ℕ → Chain
+chain_at g v first n = record { lanes = lanes_at g v.operator first n; feedback = v.feedback_state }
 
 -- operator i, as it leaves the block
 unfoldable pub put_at : Operators → ℕ → Lane → Operators
-put_at v i l = record { operator = set v.operator i (operatorOf l); feedback_state = v.feedback_state }
+put_at v i l = record { operator = set v.operator i (operator_of l); feedback_state = v.feedback_state }
 
 -- the operators of a call, from `first` on
 unfoldable pub put_all : Operators → ℕ → List Lane → Operators
@@ -63,8 +63,8 @@ desk n v block = record { operators = v; quarters = split n 4 block }
 
 -- what modulates a call: a buffer where it reads one, else feedback or nothing
 unfoldable pub source_of : Float → Call → List (List Float) → Source
-source_of feedback-scale c qs =
-    cond (reading c) (external (get_or qs c.input [])) (cond (eqb c.input 3) (feedback feedback-scale) none)
+source_of feedback_scale_lem c qs =
+    cond (reading c) (external (get_or qs c.input [])) (cond (eqb c.input 3) (feedback feedback_scale_lem) none)
 
 module _ (pairs : List Float) (g : Setting) where
   -- the quarter that a call writes, and the operators after it
@@ -72,16 +72,16 @@ module _ (pairs : List Float) (g : Setting) where
   called c d =
       let source = source_of g.feedback-scale c d.quarters in
       let there = get_or d.quarters c.output [] in
-      let s = chainAt g d.operators c.first c.n in
+      let s = chain_at g d.operators c.first c.n in
       record {
         operators = settled d.operators c.first (ended pairs source (length there) 0 s);
         quarters = set d.quarters c.output (written pairs source c.add 0 s there);
       }
 
   -- the first k calls of a plan, in order
-  unfoldable pub calledUpTo : List Call → ℕ → Desk → Desk
-  calledUpTo cs zero d = d
-  calledUpTo cs (suc k) d = called (get_or cs k noCall) (calledUpTo cs k d)
+  unfoldable pub called_up_to : List Call → ℕ → Desk → Desk
+  called_up_to cs zero d = d
+  called_up_to cs (suc k) d = called (get_or cs k no_call) (called_up_to cs k d)
 
 -- ---- a plan
 
@@ -90,8 +90,8 @@ unfoldable pub setting : List ℕ → List Float → ℕ → ℕ → Setting
 setting steps targets amount n = record {
   steps = steps;
   targets = targets;
-  ramp = rampScale n;
-  feedback-scale = feedbackScale amount;
+  ramp = ramp_scale n;
+  feedback_scale_lem = feedback_scale_of amount;
 }
 
 -- the operators, the feedback and all four quarters after a plan, for these steps, targets and amount of feedback
@@ -102,7 +102,7 @@ pub record Ran : Type 0 where
 unfoldable pub ran : List Float → Plan → List ℕ → List Float → ℕ → Operators → List Float → Ran
 ran pairs plan steps targets amount v block =
     let n = length block / 4 in
-    let d = calledUpTo pairs (setting steps targets amount n) plan.calls plan.count (desk n v block) in
+    let d = called_up_to pairs (setting steps targets amount n) plan.calls plan.count (desk n v block) in
     record { operators = d.operators; block = joined d.quarters }
 
 -- ---- the plans that can be run: every accepted row's is one
@@ -118,4 +118,4 @@ pub record Callable (c : Call) : Type 0 where
 
 pub record Playable (plan : Plan) : Type 0 where
   pub most : plan.count ≤ 6
-  pub calls : (k : ℕ) → k < plan.count → Callable (get_or plan.calls k noCall)
+  pub calls : (k : ℕ) → k < plan.count → Callable (get_or plan.calls k no_call)

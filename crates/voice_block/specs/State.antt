@@ -4,7 +4,7 @@
 use Rattle.std.specs.Prelude.{ℕ, ◌≤◌, ◌≡◌, List, [], ◌∷◌, length, get_or, set, Float}
 use Rattle.std.specs.Float.{nan}
 use Rattle.algorithms.specs.declared.Call.{Call}
-use Rattle.operator.specs.Sample.{operatorOf}
+use Rattle.operator.specs.Sample.{operator_of}
 use Rattle.operator.specs.Chain.{Source, Chain, written, ended}
 use Rattle.operator.specs.declared.Operator.{Operator}
 use Rattle.operator.specs.declared.Feedback.{Feedback}
@@ -17,13 +17,13 @@ use Rattle.voice_block.specs.declared.Pace.{Pace}
 -- ---- the operators as numbers
 
 -- each operator's phase, and each one's amplitude
-unfoldable pub phasesOf : List Operator → List ℕ
-phasesOf [] = []
-phasesOf (o ∷ os) = o.phase ∷ phasesOf os
+unfoldable pub phases_of : List Operator → List ℕ
+phases_of [] = []
+phases_of (o ∷ os) = o.phase ∷ phases_of os
 
-unfoldable pub amplitudesOf : List Operator → List Float
-amplitudesOf [] = []
-amplitudesOf (o ∷ os) = o.amplitude ∷ amplitudesOf os
+unfoldable pub amplitudes_of : List Operator → List Float
+amplitudes_of [] = []
+amplitudes_of (o ∷ os) = o.amplitude ∷ amplitudes_of os
 
 -- operator i of them
 abbrev pub numbered : List ℕ → List Float → ℕ → Operator
@@ -36,13 +36,13 @@ zipped (p ∷ phases) [] = []
 zipped (p ∷ phases) (a ∷ amplitudes) = record { phase = p; amplitude = a } ∷ zipped phases amplitudes
 
 -- the feedback of its two numbers
-unfoldable pub feedbackOf : List Float → Feedback
-feedbackOf feedback = record { previous_0 = get_or feedback 0 nan; previous_1 = get_or feedback 1 nan }
+unfoldable pub feedback_of : List Float → Feedback
+feedback_of feedback = record { previous_0 = get_or feedback 0 nan; previous_1 = get_or feedback 1 nan }
 
 unfoldable pub state_of : List ℕ → List Float → List Float → Operators
 state_of phases amplitudes feedback = record {
   operator = zipped phases amplitudes;
-  feedback_state = feedbackOf feedback;
+  feedback_state = feedback_of feedback;
 }
 
 unfoldable pub setting_of : List ℕ → List Float → Pace → Setting
@@ -50,7 +50,7 @@ setting_of steps targets pace = record {
   steps = steps;
   targets = targets;
   ramp = pace.ramp;
-  feedback-scale = pace.feedback_scale;
+  feedback_scale_lem = pace.feedback_scale;
 }
 
 -- six operators, and two numbers of feedback
@@ -64,9 +64,9 @@ pub record Lent (phases : List ℕ) (amplitudes feedback : List Float) : Type 0 
 -- operator i is put back
 pub record Stored (i : ℕ) (l : Lane) (phases : List ℕ) (amplitudes : List Float)
     (phases' : List ℕ) (amplitudes' : List Float) : Type 0 where
-  pub operators : zipped phases' amplitudes' ≡ set (zipped phases amplitudes) i (operatorOf l)
-  pub as-phases : length phases' ≡ length phases
-  pub as-amplitudes : length amplitudes' ≡ length amplitudes
+  pub operators : zipped phases' amplitudes' ≡ set (zipped phases amplitudes) i (operator_of l)
+  pub as_phases : length phases' ≡ length phases
+  pub as_amplitudes : length amplitudes' ≡ length amplitudes
 
 -- a chain is put back, from operator `first` on
 pub record Settled (first : ℕ) (s : Chain) (phases : List ℕ) (amplitudes feedback : List Float)
@@ -78,22 +78,22 @@ pub record Settled (first : ℕ) (s : Chain) (phases : List ℕ) (amplitudes fee
 abbrev pub there : Pace → Call → List Float → List Float
 there pace c block = get_or (split pace.samples 4 block) c.output []
 
-abbrev pub sourceAt : Pace → Call → List Float → Source
-sourceAt pace c block = source_of pace.feedback_scale c (split pace.samples 4 block)
+abbrev pub source_at : Pace → Call → List Float → Source
+source_at pace c block = source_of pace.feedback_scale c (split pace.samples 4 block)
 
 -- a call's chain is rendered: the quarter and the chain are as `called` has them
 pub record Played (pairs : List Float) (pace : Pace) (c : Call) (s : Chain) (block : List Float)
     (e : Chain) (block' : List Float) : Type 0 where
   pub quarters : split pace.samples 4 block'
       ≡ set (split pace.samples 4 block) c.output
-      (written pairs (sourceAt pace c block) c.add 0 s (there pace c block))
-  pub chain : e ≡ ended pairs (sourceAt pace c block) (length (there pace c block)) 0 s
+      (written pairs (source_at pace c block) c.add 0 s (there pace c block))
+  pub chain : e ≡ ended pairs (source_at pace c block) (length (there pace c block)) 0 s
 
 -- ---- what calls ask and promise
 
 -- all of it, with the quarters
-abbrev pub deskOf : ℕ → List ℕ → List Float → List Float → List Float → Desk
-deskOf n phases amplitudes feedback block = desk n (state_of phases amplitudes feedback) block
+abbrev pub desk_of : ℕ → List ℕ → List Float → List Float → List Float → Desk
+desk_of n phases amplitudes feedback block = desk n (state_of phases amplitudes feedback) block
 
 -- a block of four quarters of n samples, room aside for one of them, and the operators
 pub record Ready (n : ℕ) (phases : List ℕ) (amplitudes feedback aside block : List Float) : Type 0 where
@@ -104,5 +104,5 @@ pub record Ready (n : ℕ) (phases : List ℕ) (amplitudes feedback aside block 
 -- the desk is what f makes of it
 pub record Became (f : Desk → Desk) (n : ℕ) (phases : List ℕ) (amplitudes feedback block : List Float)
     (phases' : List ℕ) (amplitudes' feedback' block' : List Float) : Type 0 where
-  pub desk : deskOf n phases' amplitudes' feedback' block' ≡ f (deskOf n phases amplitudes feedback block)
+  pub desk : desk_of n phases' amplitudes' feedback' block' ≡ f (desk_of n phases amplitudes feedback block)
   pub lent : Lent phases' amplitudes' feedback'

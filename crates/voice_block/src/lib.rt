@@ -6,9 +6,9 @@
 ghost use Rattle.std.specs.Prelude.{◌≡◌, ◌+◌, ◌*◌, ◌/◌, ◌%◌, ◌≤◌, ◌<◌, length, take};
 ghost use Rattle.operator.specs.Chain.{one, two, three};
 ghost use Rattle.voice_block.specs.Quarters.{Quartered};
-ghost use Rattle.voice_block.specs.Calls.{Callable, Playable, laneAt, called, calledUpTo, ran};
-ghost use Rattle.voice_block.specs.State.{phasesOf, amplitudesOf, numbered, zipped};
-ghost use Rattle.voice_block.specs.State.{feedbackOf, state_of, setting_of};
+ghost use Rattle.voice_block.specs.Calls.{Callable, Playable, lane_at, called, called_up_to, ran};
+ghost use Rattle.voice_block.specs.State.{phases_of, amplitudes_of, numbered, zipped};
+ghost use Rattle.voice_block.specs.State.{feedback_of, state_of, setting_of};
 ghost use Rattle.voice_block.specs.State.{Lent, Stored, Settled, Played, Ready, Became};
 
 use algorithms::{Call, Plan};
@@ -66,7 +66,7 @@ fn operator_at(phases: &[u32; 6], amplitudes: &[f32; 6], place: usize) -> Operat
 
 // The feedback of its numbers.
 fn feedback_of(feedback: &[f32; 2]) -> Feedback
-    ensures { result ≡ feedbackOf feedback.now }
+    ensures { result ≡ feedback_of feedback.now }
 {
     let previous_0 = feedback[0];
     let previous_1 = feedback[1];
@@ -86,7 +86,7 @@ fn take_out(
     place: usize,
 ) -> Lane
     requires { (place < 6) × (length phases.now ≡ 6) × (length amplitudes.now ≡ 6) }
-    ensures { result ≡ laneAt (setting_of steps.now targets.now pace)
+    ensures { result ≡ lane_at (setting_of steps.now targets.now pace)
         (zipped phases.now amplitudes.now) place }
 {
     let step = steps[place];
@@ -107,7 +107,7 @@ fn put_back(phases: &mut [u32; 6], amplitudes: &mut [f32; 6], place: usize, lane
 
 fn put_feedback(feedback: &mut [f32; 2], after: Feedback)
     requires { length feedback.old ≡ 2 }
-    ensures { (feedbackOf feedback.new ≡ after) × (length feedback.new ≡ 2) }
+    ensures { (feedback_of feedback.new ≡ after) × (length feedback.new ≡ 2) }
 {
     feedback[0] = after.previous_0;
     feedback[1] = after.previous_1;
@@ -315,7 +315,7 @@ fn run_calls(
 )
     requires { Playable plan
         × Ready pace.samples phases.old amplitudes.old feedback.old aside.old block.old }
-    ensures { Became (calledUpTo pairs.now
+    ensures { Became (called_up_to pairs.now
         (setting_of steps.now targets.now pace) plan.calls plan.count) pace.samples
         phases.old amplitudes.old feedback.old block.old
         phases.new amplitudes.new feedback.new block.new }
@@ -335,7 +335,7 @@ fn run_calls(
 
 // The operators as numbers, and back.
 fn phases_of(state: Operators) -> [u32; 6]
-    ensures { result ≡ phasesOf state.operator }
+    ensures { result ≡ phases_of state.operator }
 {
     let o = state.operator;
     [
@@ -344,7 +344,7 @@ fn phases_of(state: Operators) -> [u32; 6]
 }
 
 fn amplitudes_of(state: Operators) -> [f32; 6]
-    ensures { result ≡ amplitudesOf state.operator }
+    ensures { result ≡ amplitudes_of state.operator }
 {
     let o = state.operator;
     [

@@ -3,26 +3,26 @@
 use Rattle.std.specs.Prelude.{ℕ, zero, suc, Bool, true, cond, List, pos, get_or, set, replicate, Float}
 use Rattle.std.specs.Float.{nan}
 use Rattle.std.specs.Float.Ieee.{neg}
-use Rattle.numbers.specs.F32.{◌⊕◌, ◌⊖◌, ◌⊗◌, decimal, minusDecimal, as_float}
+use Rattle.numbers.specs.F32.{◌⊕◌, ◌⊖◌, ◌⊗◌, decimal, minus_decimal, as_float}
 use Rattle.numbers.specs.Extremes.{minimum, magnitude}
-use Rattle.units.specs.Ratio.{ratioOf}
-use Rattle.dx_units_power.specs.Pow.{pow2Fast}
+use Rattle.units.specs.Ratio.{ratio_of}
+use Rattle.dx_units_power.specs.Pow.{pow2_fast}
 use Rattle.dx_units_step.specs.declared.Mark.{Mark}
 use Rattle.dx_units_step.specs.declared.Mark.TheVariants.{AsAsked}
 use Rattle.dx_units_step.specs.declared.Marked.{Marked}
 use Rattle.dx_units_step.specs.declared.Stepped.{Stepped}
-use Rattle.dx_units_step.specs.Step.{stepFor, markFor, steppedFor}
-use Rattle.dx_units_inner.specs.Units.{rateScaling, keyboardScaling, ampModSensitivity}
+use Rattle.dx_units_step.specs.Step.{step_for, mark_for, stepped_for}
+use Rattle.dx_units_inner.specs.Units.{rate_scaling_of, keyboard_scaling_of, amp_mod_sensitivity_of}
 use Rattle.dx_units_inner.specs.declared.Ratio.{Ratio}
 use Rattle.dx_units_inner.specs.declared.Ratio.TheVariants.{Note, Hertz}
 use Rattle.envelope_inner.specs.declared.Envelope.{Envelope}
-use Rattle.envelope_inner.specs.Envelope.{moved_to, rendered, currentValue}
+use Rattle.envelope_inner.specs.Envelope.{moved_to, rendered, current_value}
 use Rattle.envelope_inner.specs.Scrub.{scrubbed}
 use Rattle.patch.specs.declared.Operator.{Operator}
-use Rattle.patch.specs.Form.{operatorAt}
+use Rattle.patch.specs.Form.{operator_at}
 use Rattle.algorithms.specs.Opcode.{modulating}
 use Rattle.voice_setup.specs.declared.Tuned.{Tuned}
-use Rattle.voice_setup.specs.Setup.{envelopeAt}
+use Rattle.voice_setup.specs.Setup.{envelope_at}
 use Rattle.voice_levels.specs.declared.Timing.{Timing}
 use Rattle.voice_levels.specs.declared.Followed.{Followed}
 use Rattle.voice_levels.specs.declared.Placed.{Placed}
@@ -34,13 +34,13 @@ use Rattle.voice_levels.specs.declared.Levels.{Levels}
 
 -- how envelopes run in a block of so many samples: the envelope control sets two scales, and the sample that a
 -- sustained voice is scrubbed to
-unfoldable pub timingFor : Bool → Bool → Float → Float → ℕ → Timing
-timingFor sustain gate sampleRate control samples = record {
+unfoldable pub timing_for : Bool → Bool → Float → Float → ℕ → Timing
+timing_for sustain gate sampleRate control samples = record {
   sustain = sustain;
   gate = gate;
   envelope_rate = as_float samples;
-  ad_scale = pow2Fast ((decimal 5 1 ⊖ control) ⊗ decimal 8 0) (pos 1);
-  release_scale = pow2Fast (neg (magnitude (control ⊖ decimal 3 1)) ⊗ decimal 8 0) (pos 1);
+  ad_scale = pow2_fast ((decimal 5 1 ⊖ control) ⊗ decimal 8 0) (pos 1);
+  release_scale = pow2_fast (neg (magnitude (control ⊖ decimal 3 1)) ⊗ decimal 8 0) (pos 1);
   gate_duration = decimal 15 1 ⊗ sampleRate;
   envelope_sample = decimal 15 1 ⊗ sampleRate ⊗ control;
 }
@@ -51,7 +51,7 @@ followed t reshape rate e =
     let r = rendered reshape t.gate rate t.ad_scale t.release_scale e in
     cond t.sustain
     (record { envelope = e; value = scrubbed 1 reshape e t.envelope_sample t.gate_duration })
-    (record { envelope = r; value = currentValue reshape r })
+    (record { envelope = r; value = current_value reshape r })
 
 -- an envelope taken to where it stands then
 abbrev pub taken : Envelope → Placed → Followed
@@ -60,45 +60,45 @@ taken e p = record { envelope = moved_to e p.stage p.phase p.start; value = p.va
 -- ---- frequencies
 
 -- the note's frequency in turns a sample, with the pitch modulation in octaves; `high` and `low` are the ratio's tables
-unfoldable pub noteFrequency : List Float → List Float → Float → Float → Float → Float
-noteFrequency high low a0 note pitchMod =
-    a0 ⊗ decimal 25 2 ⊗ ratioOf high low (note ⊖ decimal 9 0 ⊕ pitchMod ⊗ decimal 12 0)
+unfoldable pub note_frequency : List Float → List Float → Float → Float → Float → Float
+note_frequency high low a0 note pitchMod =
+    a0 ⊗ decimal 25 2 ⊗ ratio_of high low (note ⊖ decimal 9 0 ⊕ pitchMod ⊗ decimal 12 0)
 
 -- an operator's frequency in turns a sample: its ratio to the note's, or to 1 Hz
-unfoldable pub frequencyBy : Float → Float → Ratio → Float
-frequencyBy f0 oneHz (Note r) = r ⊗ f0
-frequencyBy f0 oneHz (Hertz r) = r ⊗ oneHz
+unfoldable pub frequency_by : Float → Float → Ratio → Float
+frequency_by f0 oneHz (Note r) = r ⊗ f0
+frequency_by f0 oneHz (Hertz r) = r ⊗ oneHz
 
-abbrev pub frequencyOf : Scene → Tuned → Float
-frequencyOf g t = frequencyBy g.f0 g.one_hz t.ratio
+abbrev pub frequency_of : Scene → Tuned → Float
+frequency_of g t = frequency_by g.f0 g.one_hz t.ratio
 
 -- ---- levels
 
 -- what brightness adds to a modulator's level
-unfoldable pub brightnessOf : Float → ℕ → Float
-brightnessOf brightness opcode = cond (modulating opcode) ((brightness ⊖ decimal 5 1) ⊗ decimal 32 0) (decimal 0 0)
+unfoldable pub brightness_of : Float → ℕ → Float
+brightness_of brightness opcode = cond (modulating opcode) ((brightness ⊖ decimal 5 1) ⊗ decimal 32 0) (decimal 0 0)
 
 -- what the keyboard, the velocity and the brightness add to an operator's level: an eighth of their sum, which is held
 -- at the headroom
-unfoldable pub scalingOf : Scene → Operator → Float → ℕ → Float
-scalingOf g o headroom opcode =
+unfoldable pub scaling_of : Scene → Operator → Float → ℕ → Float
+scaling_of g o headroom opcode =
     let k = o.keyboard_scaling in
     let keyboard =
-    keyboardScaling g.note k.left_depth k.right_depth k.left_curve k.right_curve
+    keyboard_scaling_of g.note k.left_depth k.right_depth k.left_curve k.right_curve
     k.break_point
     in
     let velocity = g.normalized_velocity ⊗ as_float o.velocity_sensitivity in
-    decimal 125 3 ⊗ minimum (keyboard ⊕ velocity ⊕ brightnessOf g.brightness opcode) headroom
+    decimal 125 3 ⊗ minimum (keyboard ⊕ velocity ⊕ brightness_of g.brightness opcode) headroom
 
 -- what the amplitude modulation leaves of a level
-abbrev pub levelModOf : Float → Float
-levelModOf logLevelMod = decimal 1 0 ⊖ pow2Fast (decimal 64 1 ⊗ logLevelMod) (pos 2)
+abbrev pub level_mod_of : Float → Float
+level_mod_of logLevelMod = decimal 1 0 ⊖ pow2_fast (decimal 64 1 ⊗ logLevelMod) (pos 2)
 
 -- the amplitude of a level, with the amplitude modulation by an operator's sensitivity
-unfoldable pub amplitudeOf : Float → ℕ → Float → Float
-amplitudeOf ampMod sensitivity level =
-    let logLevelMod = ampModSensitivity sensitivity ⊗ ampMod ⊖ decimal 1 0 in
-    pow2Fast (minusDecimal 14 0 ⊕ level ⊗ levelModOf logLevelMod) (pos 2)
+unfoldable pub amplitude_of : Float → ℕ → Float → Float
+amplitude_of ampMod sensitivity level =
+    let logLevelMod = amp_mod_sensitivity_of sensitivity ⊗ ampMod ⊖ decimal 1 0 in
+    pow2_fast (minus_decimal 14 0 ⊕ level ⊗ level_mod_of logLevelMod) (pos 2)
 
 -- ---- operators
 
@@ -111,13 +111,13 @@ pub record Leveled : Type 0 where
 
 unfoldable pub leveled : Scene → Operator → Tuned → Float → ℕ → Envelope → Leveled
 leveled g o tuned headroom opcode e =
-    let rate = g.timing.envelope_rate ⊗ rateScaling g.note o.rate_scaling in
+    let rate = g.timing.envelope_rate ⊗ rate_scaling_of g.note o.rate_scaling in
     let f = followed g.timing true rate e in
     record {
       envelope = f.envelope;
-      step = stepFor (frequencyOf g tuned);
-      mark = markFor (frequencyOf g tuned);
-      amplitude = amplitudeOf g.amp_mod o.amp_mod_sensitivity (f.value ⊕ scalingOf g o headroom opcode);
+      step = step_for (frequency_of g tuned);
+      mark = mark_for (frequency_of g tuned);
+      amplitude = amplitude_of g.amp_mod o.amp_mod_sensitivity (f.value ⊕ scaling_of g o headroom opcode);
     }
 
 -- a mark as an element of an array
@@ -125,8 +125,8 @@ abbrev pub marked : Mark → Marked
 marked m = record { mark = m }
 
 -- the marks of six operators whose pitches are all as asked
-unfoldable pub allAsAsked : List Marked
-allAsAsked = replicate 6 (marked AsAsked)
+unfoldable pub all_as_asked : List Marked
+all_as_asked = replicate 6 (marked AsAsked)
 
 -- operator i put in its place
 unfoldable pub put_at : ℕ → Leveled → Levels → Levels
@@ -138,15 +138,15 @@ put_at i one l = record {
 }
 
 -- what stands past the last ratio: nothing asks for it
-abbrev pub noTuned : Tuned
-noTuned = record { ratio = Note nan }
+abbrev pub no_tuned : Tuned
+no_tuned = record { ratio = Note nan }
 
 -- no operator yet: envelopes as they are, steps and amplitudes 0, pitches as asked
 abbrev pub unleveled : List Envelope → Levels
 unleveled es = record {
   operator_envelope = es;
   steps = replicate 6 0;
-  marks = allAsAsked;
+  marks = all_as_asked;
   amplitudes = replicate 6 (decimal 0 0);
 }
 
@@ -154,46 +154,46 @@ unleveled es = record {
 module _
     (g : Scene) (ops : List Operator) (ratios : List Tuned) (headrooms : List Float) (row : List ℕ) (es : List Envelope)
   where
-    unfoldable pub leveledTo : ℕ → Levels
-    leveledTo zero = unleveled es
-    leveledTo (suc k) =
+    unfoldable pub leveled_to : ℕ → Levels
+    leveled_to zero = unleveled es
+    leveled_to (suc k) =
         let one =
-        leveled g (operatorAt ops k) (get_or ratios k noTuned) (get_or headrooms k nan) (get_or row k 0) (envelopeAt es k)
+        leveled g (operator_at ops k) (get_or ratios k no_tuned) (get_or headrooms k nan) (get_or row k 0) (envelope_at es k)
         in
-        put_at k one (leveledTo k)
+        put_at k one (leveled_to k)
 
 -- ---- the same in two steps
 
 -- first an operator's envelope and, as its value, its level
 unfoldable pub raised : Scene → Operator → Float → ℕ → Envelope → Followed
 raised g o headroom opcode e =
-    let rate = g.timing.envelope_rate ⊗ rateScaling g.note o.rate_scaling in
+    let rate = g.timing.envelope_rate ⊗ rate_scaling_of g.note o.rate_scaling in
     let f = followed g.timing true rate e in
-    record { envelope = f.envelope; value = f.value ⊕ scalingOf g o headroom opcode }
+    record { envelope = f.envelope; value = f.value ⊕ scaling_of g o headroom opcode }
 
 -- an envelope taken to where it stands then
-abbrev pub raisedBy : Envelope → Raised → Followed
-raisedBy e r = record { envelope = moved_to e r.stage r.phase r.start; value = r.level }
+abbrev pub raised_by : Envelope → Raised → Followed
+raised_by e r = record { envelope = moved_to e r.stage r.phase r.start; value = r.level }
 
 -- with its step and its mark, and the level in the amplitude's place
-abbrev pub steppedWith : Stepped → Followed → Leveled
-steppedWith s f = record { envelope = f.envelope; step = s.step; mark = s.mark; amplitude = f.value }
+abbrev pub stepped_with : Stepped → Followed → Leveled
+stepped_with s f = record { envelope = f.envelope; step = s.step; mark = s.mark; amplitude = f.value }
 
 module _
     (g : Scene) (ops : List Operator) (ratios : List Tuned) (headrooms : List Float) (row : List ℕ) (es : List Envelope)
   where
-    unfoldable pub raisedTo : ℕ → Levels
-    raisedTo zero = unleveled es
-    raisedTo (suc k) =
+    unfoldable pub raised_to : ℕ → Levels
+    raised_to zero = unleveled es
+    raised_to (suc k) =
         let one =
-        raised g (operatorAt ops k) (get_or headrooms k nan) (get_or row k 0) (envelopeAt es k)
+        raised g (operator_at ops k) (get_or headrooms k nan) (get_or row k 0) (envelope_at es k)
         in
-        put_at k (steppedWith (steppedFor (frequencyOf g (get_or ratios k noTuned))) one) (raisedTo k)
+        put_at k (stepped_with (stepped_for (frequency_of g (get_or ratios k no_tuned))) one) (raised_to k)
 
 -- then the amplitudes of the first levels
 module _ (g : Scene) (ops : List Operator) where
-  unfoldable pub amplitudesTo : List Float → ℕ → List Float
-  amplitudesTo levels zero = levels
-  amplitudesTo levels (suc k) =
-      let s = amplitudesTo levels k in
-      set s k (amplitudeOf g.amp_mod (operatorAt ops k).amp_mod_sensitivity (get_or s k nan))
+  unfoldable pub amplitudes_to : List Float → ℕ → List Float
+  amplitudes_to levels zero = levels
+  amplitudes_to levels (suc k) =
+      let s = amplitudes_to levels k in
+      set s k (amplitude_of g.amp_mod (operator_at ops k).amp_mod_sensitivity (get_or s k nan))

@@ -1,12 +1,12 @@
 // The numbers of a sounding block, after voice.rs's render: how fast the envelopes run, and for each operator its
 // envelope, its step with its mark, and its amplitude. Helpers of the voice, which has checked its state and the patch.
 ghost use Rattle.std.specs.Prelude.{◌≡◌, ◌≤◌, T};
-ghost use Rattle.envelope_inner.specs.Envelope.{allStages};
-ghost use Rattle.patch.specs.Packed.{operatorsFit};
-ghost use Rattle.voice_levels.specs.Levels.{timingFor, followed, noteFrequency, frequencyOf, scalingOf};
-ghost use Rattle.voice_levels.specs.Levels.{levelModOf, amplitudeOf};
-ghost use Rattle.voice_levels.specs.Levels.{brightnessOf, taken, raised, raisedTo, raisedBy, amplitudesTo};
-ghost use Rattle.voice_levels.specs.Levels.{allAsAsked, leveledTo};
+ghost use Rattle.envelope_inner.specs.Envelope.{all_stages};
+ghost use Rattle.patch.specs.Packed.{operators_fit};
+ghost use Rattle.voice_levels.specs.Levels.{timing_for, followed, note_frequency, frequency_of, scaling_of};
+ghost use Rattle.voice_levels.specs.Levels.{level_mod_of, amplitude_of};
+ghost use Rattle.voice_levels.specs.Levels.{brightness_of, taken, raised, raised_to, raised_by, amplitudes_to};
+ghost use Rattle.voice_levels.specs.Levels.{all_as_asked, leveled_to};
 
 use dx_units_inner::Ratio;
 use dx_units_step::{Mark, Marked};
@@ -83,7 +83,7 @@ pub fn timing_for(
     envelope_control: f32,
     samples: u32,
 ) -> Timing
-    ensures { result ≡ timingFor sustain gate sample_rate envelope_control samples }
+    ensures { result ≡ timing_for sustain gate sample_rate envelope_control samples }
 {
     let envelope_rate = numbers::u32_as_f32(samples);
     let ad_scale = dx_units_power::pow_2_fast((0.5 - envelope_control) * 8.0, 1);
@@ -154,7 +154,7 @@ pub fn note_frequency(
     note: f32,
     pitch_mod: f32,
 ) -> f32
-    ensures { result ≡ noteFrequency high.now low.now a0 note pitch_mod }
+    ensures { result ≡ note_frequency high.now low.now a0 note pitch_mod }
 {
     let semitones = note - 9.0 + pitch_mod * 12.0;
     a0 * 0.25 * units::semitones_to_ratio_lent(high, low, semitones)
@@ -162,7 +162,7 @@ pub fn note_frequency(
 
 // What brightness adds to a modulator's level.
 fn brightness_of(brightness: f32, opcode: u8) -> f32
-    ensures { result ≡ brightnessOf brightness opcode }
+    ensures { result ≡ brightness_of brightness opcode }
 {
     if algorithms::is_modulating(opcode) {
         return (brightness - 0.5) * 32.0;
@@ -172,7 +172,7 @@ fn brightness_of(brightness: f32, opcode: u8) -> f32
 
 // An operator's frequency in turns a sample.
 fn frequency(g: Scene, tuned: Tuned) -> f32
-    ensures { result ≡ frequencyOf g tuned }
+    ensures { result ≡ frequency_of g tuned }
 {
     let ratio = tuned.ratio;
     match ratio {
@@ -183,7 +183,7 @@ fn frequency(g: Scene, tuned: Tuned) -> f32
 
 // What the keyboard, the velocity and the brightness add to a level: at most the headroom.
 fn scaling(g: Scene, op: patch::Operator, level_headroom: f32, opcode: u8) -> f32
-    ensures { result ≡ scalingOf g op level_headroom opcode }
+    ensures { result ≡ scaling_of g op level_headroom opcode }
 {
     let k = op.keyboard_scaling;
     let kb_scaling = dx_units_inner::keyboard_scaling(
@@ -201,7 +201,7 @@ fn scaling(g: Scene, op: patch::Operator, level_headroom: f32, opcode: u8) -> f3
 
 // What the amplitude modulation leaves of a level; at rest it is a constant.
 fn level_mod(log_level_mod: f32) -> f32
-    ensures { result ≡ levelModOf log_level_mod }
+    ensures { result ≡ level_mod_of log_level_mod }
 {
     if log_level_mod == -1.0 {
         return LEVEL_MOD_AT_REST;
@@ -212,7 +212,7 @@ fn level_mod(log_level_mod: f32) -> f32
 // The amplitude of a level, with the amplitude modulation.
 fn amplitude(amp_mod: f32, sensitivity: u8, level: f32) -> f32
     requires { sensitivity ≤ 3 }
-    ensures { result ≡ amplitudeOf amp_mod sensitivity level }
+    ensures { result ≡ amplitude_of amp_mod sensitivity level }
 {
     let log_level_mod = dx_units_inner::amp_mod_sensitivity(sensitivity) * amp_mod - 1.0;
     dx_units_power::pow_2_fast(-14.0 + level * level_mod(log_level_mod), 2)
@@ -220,7 +220,7 @@ fn amplitude(amp_mod: f32, sensitivity: u8, level: f32) -> f32
 
 // The marks of six operators whose pitches are all as asked.
 pub fn all_as_asked() -> [Marked; 6]
-    ensures { result ≡ allAsAsked }
+    ensures { result ≡ all_as_asked }
 {
     let m = Marked {
         mark: Mark::AsAsked,
@@ -237,7 +237,7 @@ fn raise_operator(
     e: Envelope,
 ) -> Raised
     requires { e.stage ≤ 3 }
-    ensures { raisedBy e result ≡ raised g op level_headroom opcode e }
+    ensures { raised_by e result ≡ raised g op level_headroom opcode e }
 {
     let t = g.timing;
     let rate = t.envelope_rate * dx_units_inner::rate_scaling(g.note, op.rate_scaling);
@@ -262,8 +262,8 @@ fn raise_operators(
     ratios: [Tuned; 6],
     level_headroom: [f32; 6],
 ) -> Levels
-    requires { (operators ≤ 6) × T (allStages operator_envelope) }
-    ensures { result ≡ raisedTo g op ratios level_headroom row operator_envelope operators }
+    requires { (operators ≤ 6) × T (all_stages operator_envelope) }
+    ensures { result ≡ raised_to g op ratios level_headroom row operator_envelope operators }
 {
     let marks = all_as_asked();
     let mut l = Levels {
@@ -293,8 +293,8 @@ fn raise_operators(
 
 // The first operators' amplitudes, of their levels.
 fn amplitudes_of(g: Scene, operators: usize, op: [patch::Operator; 6], levels: [f32; 6]) -> [f32; 6]
-    requires { (operators ≤ 6) × T (operatorsFit op) }
-    ensures { result ≡ amplitudesTo g op levels operators }
+    requires { (operators ≤ 6) × T (operators_fit op) }
+    ensures { result ≡ amplitudes_to g op levels operators }
 {
     let mut l = levels;
     let mut i = 0usize;
@@ -317,8 +317,8 @@ pub fn level_operators(
     row: [u8; 6],
     operator_envelope: [Envelope; 6],
 ) -> Levels
-    requires { (operators ≤ 6) × T (operatorsFit op) × T (allStages operator_envelope) }
-    ensures { result ≡ leveledTo g op ratios level_headroom row operator_envelope operators }
+    requires { (operators ≤ 6) × T (operators_fit op) × T (all_stages operator_envelope) }
+    ensures { result ≡ leveled_to g op ratios level_headroom row operator_envelope operators }
 {
     let mut l = raise_operators(
         operator_envelope,

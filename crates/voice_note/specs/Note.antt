@@ -10,5 +10,5 @@ shift_of transpose = of_int binary32 (pos transpose -ℤ pos 24)
 
 -- the note that takes the given note's place everywhere in a block: the given one plus the shift, added with one
 -- rounding, in a voice that transposes, and the given one itself in any other
-unfoldable pub playedNote : Bool → ℕ → Float → Float
-playedNote transposes transpose note = cond transposes (note ⊕ shift_of transpose) note
+unfoldable pub played_note : Bool → ℕ → Float → Float
+played_note transposes transpose note = cond transposes (note ⊕ shift_of transpose) note

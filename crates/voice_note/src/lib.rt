@@ -1,7 +1,7 @@
 // The note that a block plays in the place of the one it is given (document 02, request f). It follows no file of the
 // Rust, which never looks at a patch's transpose: that is a voice that does not transpose.
 ghost use Rattle.std.specs.Prelude.{◌≡◌};
-ghost use Rattle.voice_note.specs.Note.{shift_of, playedNote};
+ghost use Rattle.voice_note.specs.Note.{shift_of, played_note};
 
 // How far a patch's transpose moves a note, in semitones: an octave has 12, and 24 is none.
 fn shift(transpose: u8) -> f32
@@ -12,7 +12,7 @@ fn shift(transpose: u8) -> f32
 
 // The note that a block plays: one sum with one rounding where the voice transposes, else the note itself.
 pub fn played_note(transposes: bool, transpose: u8, note: f32) -> f32
-    ensures { result ≡ playedNote transposes transpose note }
+    ensures { result ≡ played_note transposes transpose note }
 {
     if transposes {
         return note + shift(transpose);

@@ -7,21 +7,21 @@ use Prim.Native.Nat.{ℕ, ◌/◌}
 use lib.Dec.{T}
 use lib.ListN.{length, take}
 use lib.Ieee.{Float}
-use Rattle.algorithms.proofs.Accepted.{SafePlan, planned-safe}
+use Rattle.algorithms.proofs.Accepted.{SafePlan, planned_safe}
 use Rattle.dx_units_step.specs.declared.Marked.{Marked}
 use Rattle.voice_block.specs.declared.Operators.{Operators}
-use Rattle.voice_block.proofs.Same.{same-sound}
-use Rattle.voice_block.proofs.Lengths.{ran-length}
-use Rattle.voice_levels.specs.Levels.{allAsAsked}
+use Rattle.voice_block.proofs.Same.{same_sound}
+use Rattle.voice_block.proofs.Lengths.{ran_length}
+use Rattle.voice_levels.specs.Levels.{all_as_asked}
 use Rattle.voice.specs.declared.Voice.{Voice}
-use Rattle.voice.specs.Answers.{stateFits}
-use Rattle.voice.proofs.States.{stored, clean-has}
+use Rattle.voice.specs.Answers.{state_fits}
+use Rattle.voice.proofs.States.{stored, clean_has}
 use Rattle.voice_render.specs.declared.VoiceParameters.{VoiceParameters}
-use Rattle.voice_render.specs.Setup.{setUp}
-use Rattle.voice_render.specs.Block.{playedBy, begun, entering, after, levelsFor, marksFor, played, sounded}
-use Rattle.voice_render.specs.Answers.{blockFits, parametersFitFor, Answered, unsounded, sounding, renderAnswer}
-use Rattle.voice_render.specs.Heard.{output, heardOf}
-use Rattle.voice_render.proofs.Blocks.{block-whole}
+use Rattle.voice_render.specs.Setup.{set_up}
+use Rattle.voice_render.specs.Block.{played_by, begun, entering, after, levels_for, marks_for, played, sounded}
+use Rattle.voice_render.specs.Answers.{block_fits, parameters_fit_for, Answered, unsounded, sounding, render_answer}
+use Rattle.voice_render.specs.Heard.{output, heard_of}
+use Rattle.voice_render.proofs.Blocks.{block_whole}
 
 abbrev answer : ℕ → List Marked → Voice → List Float → Answered
 answer number marks v block = record { number = number; marks = marks; voice = v; block = block }
@@ -31,41 +31,41 @@ same_answer : (number : ℕ) (marks : List Marked) {v w : Voice} {one other : Li
 same_answer number marks e f = rw (e, f)
 
 -- an accepted block's output is its first quarter
-output-fits : (n : ℕ) (block : List Float) → length block ≡ n → blockFits n ≡ true
+output_fits : (n : ℕ) (block : List Float) → length block ≡ n → block_fits n ≡ true
     → output block ≡ take (n / 4) block
 unfolding output
-output-fits n block e h = rw (e, h)
+output_fits n block e h = rw (e, h)
 
 -- a sounding block is as long afterwards
-pub sounded-length : (pairs high low : List Float) (v : Voice) (p : VoiceParameters) (block : List Float)
-    → blockFits (length block) ≡ true → length (sounded pairs high low v p block).block ≡ length block
+pub sounded_length : (pairs high low : List Float) (v : Voice) (p : VoiceParameters) (block : List Float)
+    → block_fits (length block) ≡ true → length (sounded pairs high low v p block).block ≡ length block
 unfolding sounded played
-sounded-length pairs high low v p block size =
-    ran-length pairs v.plan _ _ v.patch.feedback _ block (block-whole (length block) (subst T (sym size) tt))
+sounded_length pairs high low v p block size =
+    ran_length pairs v.plan _ _ v.patch.feedback _ block (block_whole (length block) (subst T (sym size) tt))
 
 -- a block's answer, for each way that its four tests go, where p is what it plays
-abbrev pub answerBy : List Float → List Float → List Float → Voice → VoiceParameters → List Float
+abbrev pub answer_by : List Float → List Float → List Float → Voice → VoiceParameters → List Float
     → Bool → Bool → Bool → Bool → Answered
-answerBy pairs high low v p block state size fit dirty =
+answer_by pairs high low v p block state size fit dirty =
     cond state
     (cond size
     (cond fit
-    (cond dirty (unsounded 0 (setUp high low v) block) (sounding (sounded pairs high low v p block)))
+    (cond dirty (unsounded 0 (set_up high low v) block) (sounding (sounded pairs high low v p block)))
     (unsounded 7 v block))
     (unsounded 8 v block))
     (unsounded 9 v block)
 
 -- any block is as long afterwards
-pub rendered-length : (pairs high low : List Float) (v : Voice) (p : VoiceParameters) (block : List Float)
-    → length (renderAnswer pairs high low v p block).block ≡ length block
-unfolding renderAnswer
-rendered-length pairs high low v p block =
-    go (stateFits v) (blockFits (length block)) (parametersFitFor v p) v.dirty refl
+pub rendered_length : (pairs high low : List Float) (v : Voice) (p : VoiceParameters) (block : List Float)
+    → length (render_answer pairs high low v p block).block ≡ length block
+unfolding render_answer
+rendered_length pairs high low v p block =
+    go (state_fits v) (block_fits (length block)) (parameters_fit_for v p) v.dirty refl
   where
-    go : (state size fit dirty : Bool) → blockFits (length block) ≡ size
-        → length (answerBy pairs high low v (playedBy v p) block state size fit dirty).block ≡ length block
+    go : (state size fit dirty : Bool) → block_fits (length block) ≡ size
+        → length (answer_by pairs high low v (played_by v p) block state size fit dirty).block ≡ length block
     go true true true true s = refl
-    go true true true false s = sounded-length pairs high low v (playedBy v p) block s
+    go true true true false s = sounded_length pairs high low v (played_by v p) block s
     go true true false dirty s = refl
     go true false fit dirty s = refl
     go false size fit dirty s = refl
@@ -73,44 +73,44 @@ rendered-length pairs high low v p block =
 module _ (pairs high low : List Float) (v : Voice) (p : VoiceParameters) (one other : List Float)
     (l : length one ≡ length other) (o : output one ≡ output other) where
   -- a sounding block
-  pub sounded-alike : stateFits v ≡ true → blockFits (length one) ≡ true → v.dirty ≡ false
-      → heardOf (sounding (sounded pairs high low v p one)) ≡ heardOf (sounding (sounded pairs high low v p other))
+  pub sounded_alike : state_fits v ≡ true → block_fits (length one) ≡ true → v.dirty ≡ false
+      → heard_of (sounding (sounded pairs high low v p one)) ≡ heard_of (sounding (sounded pairs high low v p other))
   unfolding sounded played
-  sounded-alike fits size clean =
+  sounded_alike fits size clean =
       let n = length one in
-      let t : T (stateFits v) = subst T (sym fits) tt in
-      let s = stored v t (clean-has v t clean) in
-      let safe : SafePlan v.plan = rw s.same (planned-safe v.operators v.row) in
-      let levels = levelsFor pairs high low v p (n / 4) in
-      let firsts = sym (output-fits n one refl size) ∙ o ∙ output-fits n other (sym l) size in
+      let t : T (state_fits v) = subst T (sym fits) tt in
+      let s = stored v t (clean_has v t clean) in
+      let safe : SafePlan v.plan = rw s.same (planned_safe v.operators v.row) in
+      let levels = levels_for pairs high low v p (n / 4) in
+      let firsts = sym (output_fits n one refl size) ∙ o ∙ output_fits n other (sym l) size in
       let before : Operators = record { operator = entering v p; feedback_state = v.feedback_state } in
-      let whole = block-whole n (subst T (sym size) tt) in
-      let same = same-sound pairs v.plan levels.steps levels.amplitudes v.patch.feedback before one other
+      let whole = block_whole n (subst T (sym size) tt) in
+      let same = same_sound pairs v.plan levels.steps levels.amplitudes v.patch.feedback before one other
       safe l firsts in
-      let long = ran-length pairs v.plan levels.steps levels.amplitudes v.patch.feedback before one
+      let long = ran_length pairs v.plan levels.steps levels.amplitudes v.patch.feedback before one
       whole in
-      let long' = ran-length pairs v.plan levels.steps levels.amplitudes v.patch.feedback before other
+      let long' = ran_length pairs v.plan levels.steps levels.amplitudes v.patch.feedback before other
       (rw (← l) whole) in
-      rw (← l) (same_answer 0 (marksFor pairs high low v p (n / 4))
+      rw (← l) (same_answer 0 (marks_for pairs high low v p (n / 4))
       (ap (after v p (begun high low v p (n / 4)) levels) same.0)
-      (output-fits n _ long size ∙ same.1 ∙ sym (output-fits n _ (long' ∙ sym l) size)))
+      (output_fits n _ long size ∙ same.1 ∙ sym (output_fits n _ (long' ∙ sym l) size)))
 
   -- any block of what is played: refused or blank, it stays as it was
-  answered-alike : (state size fit dirty : Bool) → stateFits v ≡ state → blockFits (length one) ≡ size
+  answered_alike : (state size fit dirty : Bool) → state_fits v ≡ state → block_fits (length one) ≡ size
       → v.dirty ≡ dirty
-      → heardOf (answerBy pairs high low v p one state size fit dirty)
-      ≡ heardOf (answerBy pairs high low v p other state size fit dirty)
-  answered-alike true true true true f s d = same_answer 0 allAsAsked refl o
-  answered-alike true true true false f s d = sounded-alike f s d
-  answered-alike true true false dirty f s d = same_answer 7 allAsAsked refl o
-  answered-alike true false fit dirty f s d = same_answer 8 allAsAsked refl o
-  answered-alike false size fit dirty f s d = same_answer 9 allAsAsked refl o
+      → heard_of (answer_by pairs high low v p one state size fit dirty)
+      ≡ heard_of (answer_by pairs high low v p other state size fit dirty)
+  answered_alike true true true true f s d = same_answer 0 all_as_asked refl o
+  answered_alike true true true false f s d = sounded_alike f s d
+  answered_alike true true false dirty f s d = same_answer 7 all_as_asked refl o
+  answered_alike true false fit dirty f s d = same_answer 8 all_as_asked refl o
+  answered_alike false size fit dirty f s d = same_answer 9 all_as_asked refl o
 
 -- any block, its switch on or off
-pub rendered-alike : (pairs high low : List Float) (v : Voice) (p : VoiceParameters) (one other : List Float)
+pub rendered_alike : (pairs high low : List Float) (v : Voice) (p : VoiceParameters) (one other : List Float)
     → length one ≡ length other → output one ≡ output other
-    → heardOf (renderAnswer pairs high low v p one) ≡ heardOf (renderAnswer pairs high low v p other)
-unfolding renderAnswer
-rendered-alike pairs high low v p one other l o =
-    rw (← l) (answered-alike pairs high low v (playedBy v p) one other l o (stateFits v) (blockFits (length one))
-    (parametersFitFor v p) v.dirty refl refl refl)
+    → heard_of (render_answer pairs high low v p one) ≡ heard_of (render_answer pairs high low v p other)
+unfolding render_answer
+rendered_alike pairs high low v p one other l o =
+    rw (← l) (answered_alike pairs high low v (played_by v p) one other l o (state_fits v) (block_fits (length one))
+    (parameters_fit_for v p) v.dirty refl refl refl)

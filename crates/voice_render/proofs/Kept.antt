@@ -8,38 +8,38 @@ use lib.ListN.{length}
 use lib.Ieee.{Float}
 use lib.Ieee.Bits.{is_true}
 use Rattle.patch.specs.declared.Operator.{Operator}
-use Rattle.envelope_inner.specs.Envelope.{allStages}
-use Rattle.envelope_inner.specs.Set.{operatorSet, pitchSet}
+use Rattle.envelope_inner.specs.Envelope.{all_stages}
+use Rattle.envelope_inner.specs.Set.{operator_set, pitch_set}
 use Rattle.voice_setup.specs.declared.Setup.{Setup}
-use Rattle.voice_setup.specs.Setup.{operatorSetUp, put_at, setUpTo}
-use Rattle.voice_levels.proofs.Stages.{stage-at-fits, set-keeps-stages, leveled-keeps-stages, followed-stage}
+use Rattle.voice_setup.specs.Setup.{operator_set_up, put_at, set_up_to}
+use Rattle.voice_levels.proofs.Stages.{stage_at_fits, set_keeps_stages, leveled_keeps_stages, followed_stage}
 use Rattle.voice.specs.declared.Voice.{Voice}
-use Rattle.voice.specs.Answers.{stateFits}
-use Rattle.voice.proofs.States.{Fits, state-fits}
-use Rattle.voice.proofs.Kept.{Kept, fits-state}
+use Rattle.voice.specs.Answers.{state_fits}
+use Rattle.voice.proofs.States.{Fits, state_fits_lem}
+use Rattle.voice.proofs.Kept.{Kept, fits_state}
 use Rattle.voice_render.specs.declared.Readied.{Readied}
 use Rattle.voice_render.specs.declared.VoiceParameters.{VoiceParameters}
-use Rattle.voice_render.specs.Setup.{withSetup, setUp}
-use Rattle.voice_render.specs.Block.{playedBy, begun, after, levelsFor, sounded}
-use Rattle.voice_render.specs.Answers.{blockFits, parametersFitFor, readied, setupAnswer, Answered, renderAnswer}
-use Rattle.voice_render.proofs.Alike.{answerBy}
+use Rattle.voice_render.specs.Setup.{with_setup, set_up}
+use Rattle.voice_render.specs.Block.{played_by, begun, after, levels_for, sounded}
+use Rattle.voice_render.specs.Answers.{block_fits, parameters_fit_for, readied, setup_answer, Answered, render_answer}
+use Rattle.voice_render.proofs.Alike.{answer_by}
 
-set-up-stages : (high low : List Float) (ops : List Operator) (k : ℕ) (s : Setup)
-    → T (allStages s.operator_envelope) → T (allStages (setUpTo high low ops k s).operator_envelope)
-unfolding setUpTo put_at operatorSetUp operatorSet
-set-up-stages high low ops zero s t = t
-set-up-stages high low ops (suc k) s t =
-    let before = (setUpTo high low ops k s).operator_envelope in
-    let u = set-up-stages high low ops k s t in
-    set-keeps-stages before k _ u (stage-at-fits before k u)
+set_up_stages : (high low : List Float) (ops : List Operator) (k : ℕ) (s : Setup)
+    → T (all_stages s.operator_envelope) → T (all_stages (set_up_to high low ops k s).operator_envelope)
+unfolding set_up_to put_at operator_set_up operator_set
+set_up_stages high low ops zero s t = t
+set_up_stages high low ops (suc k) s t =
+    let before = (set_up_to high low ops k s).operator_envelope in
+    let u = set_up_stages high low ops k s t in
+    set_keeps_stages before k _ u (stage_at_fits before k u)
 
-module _ (v : Voice) (t : T (stateFits v)) where
-  pub set-up-fits : (high low : List Float) → T (stateFits (setUp high low v))
-  unfolding setUp withSetup pitchSet
-  set-up-fits high low = go v.has_patch refl
+module _ (v : Voice) (t : T (state_fits v)) where
+  pub set_up_fits : (high low : List Float) → T (state_fits (set_up high low v))
+  unfolding set_up with_setup pitch_set
+  set_up_fits high low = go v.has_patch refl
     where
       f : Fits v
-      f = state-fits v t
+      f = state_fits_lem v t
 
       before : Setup
       before = record {
@@ -49,56 +49,56 @@ module _ (v : Voice) (t : T (stateFits v)) where
       }
 
       go : (b : Bool) → v.has_patch ≡ b
-          → T (stateFits (cond b
-          (withSetup v
-          (pitchSet v.pitch_envelope v.patch.pitch_envelope.rate v.patch.pitch_envelope.level)
-          (setUpTo high low v.patch.op v.operators before))
+          → T (state_fits (cond b
+          (with_setup v
+          (pitch_set v.pitch_envelope v.patch.pitch_envelope.rate v.patch.pitch_envelope.level)
+          (set_up_to high low v.patch.op v.operators before))
           v))
-      go true e = fits-state _ (record {
+      go true e = fits_state _ (record {
         count = f.count;
-        stages = set-up-stages high low v.patch.op v.operators _ f.stages;
+        stages = set_up_stages high low v.patch.op v.operators _ f.stages;
         pitch = f.pitch;
         patched = rw e (rw e at f).patched;
       })
       go false e = t
 
-  pub setup-keeps : (high low : List Float)
-      → Kept (setupAnswer high low v).voice (setupAnswer high low v).number
-  unfolding setupAnswer
-  setup-keeps high low = rw (is_true (stateFits v) t) (go v.dirty)
+  pub setup_keeps : (high low : List Float)
+      → Kept (setup_answer high low v).voice (setup_answer high low v).number
+  unfolding setup_answer
+  setup_keeps high low = rw (is_true (state_fits v) t) (go v.dirty)
     where
       answer : Bool → Readied
-      answer b = cond b (readied 0 true (setUp high low v)) (readied 0 false v)
+      answer b = cond b (readied 0 true (set_up high low v)) (readied 0 false v)
 
       go : (b : Bool) → Kept (answer b).voice (answer b).number
-      go true = (set-up-fits high low, tt)
+      go true = (set_up_fits high low, tt)
       go false = (t, tt)
 
   -- a sounding block
-  sounded-fits : (pairs high low : List Float) (p : VoiceParameters) (block : List Float)
-      → T (stateFits (sounded pairs high low v p block).voice)
-  unfolding sounded after levelsFor begun
-  sounded-fits pairs high low p block =
-      let f = state-fits v t in
-      fits-state _ (record {
+  sounded_fits : (pairs high low : List Float) (p : VoiceParameters) (block : List Float)
+      → T (state_fits (sounded pairs high low v p block).voice)
+  unfolding sounded after levels_for begun
+  sounded_fits pairs high low p block =
+      let f = state_fits_lem v t in
+      fits_state _ (record {
         count = f.count;
-        stages = leveled-keeps-stages _ v.patch.op v.ratios v.level_headroom v.row
+        stages = leveled_keeps_stages _ v.patch.op v.ratios v.level_headroom v.row
             v.operator_envelope v.operators f.stages;
-        pitch = followed-stage _ false _ v.pitch_envelope f.pitch;
+        pitch = followed_stage _ false _ v.pitch_envelope f.pitch;
         patched = f.patched;
       })
 
-  pub render-keeps : (pairs high low : List Float) (p : VoiceParameters) (block : List Float)
-      → Kept (renderAnswer pairs high low v p block).voice (renderAnswer pairs high low v p block).number
-  unfolding renderAnswer
-  render-keeps pairs high low p block =
-      rw (is_true (stateFits v) t) (go (blockFits (length block)) (parametersFitFor v p) v.dirty)
+  pub render_keeps : (pairs high low : List Float) (p : VoiceParameters) (block : List Float)
+      → Kept (render_answer pairs high low v p block).voice (render_answer pairs high low v p block).number
+  unfolding render_answer
+  render_keeps pairs high low p block =
+      rw (is_true (state_fits v) t) (go (block_fits (length block)) (parameters_fit_for v p) v.dirty)
     where
       answer : Bool → Bool → Bool → Answered
-      answer = answerBy pairs high low v (playedBy v p) block true
+      answer = answer_by pairs high low v (played_by v p) block true
 
       go : (a b c : Bool) → Kept (answer a b c).voice (answer a b c).number
-      go true true true = (set-up-fits high low, tt)
-      go true true false = (sounded-fits pairs high low (playedBy v p) block, tt)
+      go true true true = (set_up_fits high low, tt)
+      go true true false = (sounded_fits pairs high low (played_by v p) block, tt)
       go true false c = (t, tt)
       go false b c = (t, tt)

@@ -5,68 +5,68 @@ use mathlib.Core.Bool.{Bool, true, false, cond, ◌&&◌, and-true}
 use mathlib.Core.List.{List}
 use lib.ListN.{length}
 use lib.Ieee.{Float}
-use Rattle.numbers.specs.F32.{decimal, minusDecimal}
-use Rattle.patch_limits.specs.Ranges.{between, noteFits, unitFits}
-use Rattle.voice_note.specs.Note.{playedNote}
+use Rattle.numbers.specs.F32.{decimal, minus_decimal}
+use Rattle.patch_limits.specs.Ranges.{between, note_fits, unit_fits}
+use Rattle.voice_note.specs.Note.{played_note}
 use Rattle.voice_setup.specs.declared.Setup.{Setup}
 use Rattle.envelope_inner.specs.declared.Envelope.{Envelope}
 use Rattle.voice.specs.declared.Voice.{Voice}
-use Rattle.voice.specs.Answers.{stateFits}
+use Rattle.voice.specs.Answers.{state_fits}
 use Rattle.voice_render.specs.declared.VoiceParameters.{VoiceParameters}
-use Rattle.voice_render.specs.Setup.{withSetup, setUp}
-use Rattle.voice_render.specs.Block.{playedBy, after, sounded}
-use Rattle.voice_render.specs.Answers.{blockFits, parametersFit, parametersFitFor, readied, setupAnswer}
-use Rattle.voice_render.specs.Answers.{renderAnswer}
-use Rattle.voice_render.proofs.Alike.{answerBy}
+use Rattle.voice_render.specs.Setup.{with_setup, set_up}
+use Rattle.voice_render.specs.Block.{played_by, after, sounded}
+use Rattle.voice_render.specs.Answers.{block_fits, parameters_fit, parameters_fit_for, readied, setup_answer}
+use Rattle.voice_render.specs.Answers.{render_answer}
+use Rattle.voice_render.proofs.Alike.{answer_by}
 
 -- ---- a voice that does not transpose
 
 -- a test that stands first is not asked twice
-first-again : (n a b c d e : Bool) → (n && a && b && c && d && e && n) ≡ (n && a && b && c && d && e)
-first-again true a b c d e = and-true _
-first-again false a b c d e = refl
+first_again : (n a b c d e : Bool) → (n && a && b && c && d && e && n) ≡ (n && a && b && c && d && e)
+first_again true a b c d e = and-true _
+first_again false a b c d e = refl
 
 module _ (v : Voice) (p : VoiceParameters) (off : (v.transposing && v.has_patch) ≡ false) where
-  pub as-given : playedBy v p ≡ p
-  unfolding playedBy playedNote
-  as-given = rw off refl
+  pub as_given : played_by v p ≡ p
+  unfolding played_by played_note
+  as_given = rw off refl
 
-  pub fits-as-given : parametersFitFor v p ≡ parametersFit p
-  unfolding parametersFitFor parametersFit
-  fits-as-given =
-      rw as-given (first-again (noteFits p.note) (unitFits p.velocity) (unitFits p.brightness)
-      (unitFits p.envelope_control) (between (minusDecimal 4 0) (decimal 4 0) p.pitch_mod)
-      (unitFits p.amp_mod))
+  pub fits_as_given : parameters_fit_for v p ≡ parameters_fit p
+  unfolding parameters_fit_for parameters_fit
+  fits_as_given =
+      rw as_given (first_again (note_fits p.note) (unit_fits p.velocity) (unit_fits p.brightness)
+      (unit_fits p.envelope_control) (between (minus_decimal 4 0) (decimal 4 0) p.pitch_mod)
+      (unit_fits p.amp_mod))
 
 -- ---- the switch stays
 
 module _ (pairs high low : List Float) (v : Voice) where
-  pub set-up-switch : (setUp high low v).transposing ≡ v.transposing
-  unfolding setUp withSetup
-  set-up-switch = go _ _ v.has_patch
+  pub set_up_switch : (set_up high low v).transposing ≡ v.transposing
+  unfolding set_up with_setup
+  set_up_switch = go _ _ v.has_patch
     where
-      go : (e : Envelope) (s : Setup) (b : Bool) → (cond b (withSetup v e s) v).transposing ≡ v.transposing
+      go : (e : Envelope) (s : Setup) (b : Bool) → (cond b (with_setup v e s) v).transposing ≡ v.transposing
       go e s true = refl
       go e s false = refl
 
-  pub setup-switch : (setupAnswer high low v).voice.transposing ≡ v.transposing
-  unfolding setupAnswer
-  setup-switch = go (stateFits v) v.dirty
+  pub setup_switch : (setup_answer high low v).voice.transposing ≡ v.transposing
+  unfolding setup_answer
+  setup_switch = go (state_fits v) v.dirty
     where
       go : (b c : Bool)
-          → (cond b (cond c (readied 0 true (setUp high low v)) (readied 0 false v)) (readied 9 false v)).voice.transposing ≡ v.transposing
-      go true true = set-up-switch
+          → (cond b (cond c (readied 0 true (set_up high low v)) (readied 0 false v)) (readied 9 false v)).voice.transposing ≡ v.transposing
+      go true true = set_up_switch
       go true false = refl
       go false c = refl
 
-  pub render-switch : (p : VoiceParameters) (block : List Float)
-      → (renderAnswer pairs high low v p block).voice.transposing ≡ v.transposing
-  unfolding renderAnswer sounded after
-  render-switch p block = go (stateFits v) (blockFits (length block)) (parametersFitFor v p) v.dirty
+  pub render_switch : (p : VoiceParameters) (block : List Float)
+      → (render_answer pairs high low v p block).voice.transposing ≡ v.transposing
+  unfolding render_answer sounded after
+  render_switch p block = go (state_fits v) (block_fits (length block)) (parameters_fit_for v p) v.dirty
     where
       go : (a b c d : Bool)
-          → (answerBy pairs high low v (playedBy v p) block a b c d).voice.transposing ≡ v.transposing
-      go true true true true = set-up-switch
+          → (answer_by pairs high low v (played_by v p) block a b c d).voice.transposing ≡ v.transposing
+      go true true true true = set_up_switch
       go true true true false = refl
       go true true false d = refl
       go true false c d = refl

@@ -1,15 +1,15 @@
 -- A voice set up, which a blank block does, after voice.rs. Definitions only.
 use Rattle.std.specs.Prelude.{false, cond, List, Float}
 use Rattle.envelope_inner.specs.declared.Envelope.{Envelope}
-use Rattle.envelope_inner.specs.Set.{pitchSet}
+use Rattle.envelope_inner.specs.Set.{pitch_set}
 use Rattle.voice_setup.specs.declared.Setup.{Setup}
-use Rattle.voice_setup.specs.Setup.{setUpTo}
+use Rattle.voice_setup.specs.Setup.{set_up_to}
 use Rattle.voice.specs.declared.Voice.{Voice}
-use Rattle.voice.specs.Voice.{Moving, contentsOf, rebuilt}
+use Rattle.voice.specs.Voice.{Moving, contents_of, rebuilt}
 
 -- the same voice, clean, with what its patch sets up
-unfoldable pub withSetup : Voice → Envelope → Setup → Voice
-withSetup v pitch s =
+unfoldable pub with_setup : Voice → Envelope → Setup → Voice
+with_setup v pitch s =
     let m : Moving =
     record {
       gate = v.gate;
@@ -21,11 +21,11 @@ withSetup v pitch s =
       feedback = v.feedback_state;
     }
     in
-    rebuilt v m (record { ratios = s.ratios; headroom = s.level_headroom }) (contentsOf v) false v.transposing
+    rebuilt v m (record { ratios = s.ratios; headroom = s.level_headroom }) (contents_of v) false v.transposing
 
 -- a dirty voice with a patch is set up; one without stays as it is
-unfoldable pub setUp : List Float → List Float → Voice → Voice
-setUp high low v =
+unfoldable pub set_up : List Float → List Float → Voice → Voice
+set_up high low v =
     let p = v.patch in
     let before : Setup =
     record {
@@ -34,7 +34,7 @@ setUp high low v =
       level_headroom = v.level_headroom;
     }
     in
-    let pitch = pitchSet v.pitch_envelope p.pitch_envelope.rate p.pitch_envelope.level in
+    let pitch = pitch_set v.pitch_envelope p.pitch_envelope.rate p.pitch_envelope.level in
     cond v.has_patch
-    (withSetup v pitch (setUpTo high low p.op v.operators before))
+    (with_setup v pitch (set_up_to high low p.op v.operators before))
     v

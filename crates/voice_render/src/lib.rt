@@ -3,14 +3,14 @@
 // refusal hands back the voice as it came and touches no buffer. A sounding block marks each operator whose pitch was
 // cut off. A voice whose switch is on plays every note as far away as its patch's transpose says.
 ghost use Rattle.std.specs.Prelude.{◌≡◌, false, cond, ◌≤◌, T, eqb, length};
-ghost use Rattle.sine.specs.Pairs.{sinePairs};
-ghost use Rattle.units.specs.Tables.{lutPitchRatioHigh, lutPitchRatioLow};
-ghost use Rattle.voice_levels.specs.Levels.{allAsAsked};
-ghost use Rattle.voice.specs.Answers.{stateFits};
-ghost use Rattle.voice_render.specs.Setup.{withSetup, setUp};
-ghost use Rattle.voice_render.specs.Block.{playedBy, noteOn, struck, begun, restarted, entering, after, sounded};
-ghost use Rattle.voice_render.specs.Answers.{blockFits, parametersFit, parametersFitFor, setupAnswer};
-ghost use Rattle.voice_render.specs.Answers.{answeredBy, sounding, renderAnswer};
+ghost use Rattle.sine.specs.Pairs.{sine_pairs};
+ghost use Rattle.units.specs.Tables.{lut_pitch_ratio_high, lut_pitch_ratio_low};
+ghost use Rattle.voice_levels.specs.Levels.{all_as_asked};
+ghost use Rattle.voice.specs.Answers.{state_fits};
+ghost use Rattle.voice_render.specs.Setup.{with_setup, set_up};
+ghost use Rattle.voice_render.specs.Block.{played_by, note_on, struck, begun, restarted, entering, after, sounded};
+ghost use Rattle.voice_render.specs.Answers.{block_fits, parameters_fit, parameters_fit_for, setup_answer};
+ghost use Rattle.voice_render.specs.Answers.{answered_by, sounding, render_answer};
 
 use dx_units_step::Marked;
 use envelope_inner::Envelope;
@@ -65,14 +65,14 @@ pub struct Begun {
 
 // Number 8.
 fn block_fits(size: usize) -> bool
-    ensures { result ≡ blockFits size }
+    ensures { result ≡ block_fits size }
 {
     (size % 4 == 0) & (size <= 4096)
 }
 
 // Number 7 of the parameters that are given.
 fn parameters_fit(p: VoiceParameters) -> bool
-    ensures { result ≡ parametersFit p }
+    ensures { result ≡ parameters_fit p }
 {
     patch_limits::note_fits(p.note)
         & patch_limits::unit_fits(p.velocity)
@@ -84,7 +84,7 @@ fn parameters_fit(p: VoiceParameters) -> bool
 
 // What a block plays: the note that takes the given one's place, and the rest as it is given.
 fn played_by(v: Voice, p: VoiceParameters) -> VoiceParameters
-    ensures { result ≡ playedBy v p }
+    ensures { result ≡ played_by v p }
 {
     let patch = v.patch;
     let mut q = p;
@@ -94,14 +94,14 @@ fn played_by(v: Voice, p: VoiceParameters) -> VoiceParameters
 
 // Number 7 in a block of this voice: the parameters first, then the note that it plays.
 fn parameters_fit_for(v: Voice, p: VoiceParameters) -> bool
-    ensures { result ≡ parametersFitFor v p }
+    ensures { result ≡ parameters_fit_for v p }
 {
     let q = played_by(v, p);
     parameters_fit(p) & patch_limits::note_fits(q.note)
 }
 
 fn with_setup(v: Voice, pitch_envelope: Envelope, s: Setup) -> Voice
-    ensures { result ≡ withSetup v pitch_envelope s }
+    ensures { result ≡ with_setup v pitch_envelope s }
 {
     let mut w = v;
     let operator_envelope = s.operator_envelope;
@@ -117,8 +117,8 @@ fn with_setup(v: Voice, pitch_envelope: Envelope, s: Setup) -> Voice
 
 // What is computed once for a patch: envelopes, headroom and frequency ratios. A voice without one stays dirty.
 fn set_up(high: &[f32; 256], low: &[f32; 256], v: Voice) -> Voice
-    requires { T (stateFits v) }
-    ensures { result ≡ setUp high.now low.now v }
+    requires { T (state_fits v) }
+    ensures { result ≡ set_up high.now low.now v }
 {
     if !v.has_patch {
         return v;
@@ -144,7 +144,7 @@ fn set_up(high: &[f32; 256], low: &[f32; 256], v: Voice) -> Voice
 
 // The same for any voice: a clean one stays as it is.
 pub fn setup(v: Voice) -> Readied
-    ensures { result ≡ setupAnswer lutPitchRatioHigh lutPitchRatioLow v }
+    ensures { result ≡ setup_answer lut_pitch_ratio_high lut_pitch_ratio_low v }
 {
     if !voice::state_fits(v) {
         return Readied {
@@ -171,7 +171,7 @@ pub fn setup(v: Voice) -> Readied
 
 // The gate opens: it was closed in the last block that sounded.
 fn note_on(v: Voice, p: VoiceParameters) -> bool
-    ensures { result ≡ noteOn v p }
+    ensures { result ≡ note_on v p }
 {
     p.gate & !v.gate
 }
@@ -248,7 +248,7 @@ fn enter(v: Voice, p: VoiceParameters) -> [Operator; 6]
 
 // The marks that a block of n samples tells: no pitch of an empty one is cut off.
 fn told(n: usize, marks: [Marked; 6]) -> [Marked; 6]
-    ensures { result ≡ cond (eqb n 0) allAsAsked marks }
+    ensures { result ≡ cond (eqb n 0) all_as_asked marks }
 {
     if n == 0 {
         return voice_levels::all_as_asked();
@@ -258,7 +258,7 @@ fn told(n: usize, marks: [Marked; 6]) -> [Marked; 6]
 
 // What a block of n samples gives: its marks, and the voice after it.
 fn leave(n: usize, v: Voice, p: VoiceParameters, b: Begun, l: Levels, os: Operators) -> Rendered
-    ensures { (result.number ≡ 0) × (result.marks ≡ cond (eqb n 0) allAsAsked l.marks)
+    ensures { (result.number ≡ 0) × (result.marks ≡ cond (eqb n 0) all_as_asked l.marks)
         × (result.voice ≡ after v p b l os) }
 {
     let mut w = v;
@@ -291,8 +291,8 @@ fn render_sounding(
     low: &[f32; 256],
     block: &mut [f32],
 ) -> Rendered
-    requires { T (stateFits v) × (v.dirty ≡ false) × T (blockFits (length block.old)) }
-    ensures { answeredBy result block.new
+    requires { T (state_fits v) × (v.dirty ≡ false) × T (block_fits (length block.old)) }
+    ensures { answered_by result block.new
         ≡ sounding (sounded pairs.now high.now low.now v p block.old) }
 {
     let n = block.len() / 4;
@@ -328,7 +328,7 @@ fn render_sounding(
 
 // What a refused or a blank block gives: no pitch of it is cut off.
 fn unheard(number: u8, voice: Voice) -> Rendered
-    ensures { result ≡ record { number = number; marks = allAsAsked; voice = voice } }
+    ensures { result ≡ record { number = number; marks = all_as_asked; voice = voice } }
 {
     Rendered {
         number,
@@ -348,8 +348,8 @@ pub fn render_with(
     p: VoiceParameters,
     block: &mut [f32],
 ) -> Rendered
-    ensures { answeredBy result block.new
-        ≡ renderAnswer pairs.now high.now low.now v p block.old }
+    ensures { answered_by result block.new
+        ≡ render_answer pairs.now high.now low.now v p block.old }
 {
     if !voice::state_fits(v) {
         return unheard(9, v);
@@ -369,8 +369,8 @@ pub fn render_with(
 
 // A block: the output and scratch 1 to 3, a quarter each.
 pub fn render(v: Voice, p: VoiceParameters, block: &mut [f32]) -> Rendered
-    ensures { answeredBy result block.new
-        ≡ renderAnswer sinePairs lutPitchRatioHigh lutPitchRatioLow v p block.old }
+    ensures { answered_by result block.new
+        ≡ render_answer sine_pairs lut_pitch_ratio_high lut_pitch_ratio_low v p block.old }
 {
     let pairs = sine::sine_pairs();
     let high = units::lut_pitch_ratio_high();

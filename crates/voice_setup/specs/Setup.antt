@@ -2,34 +2,34 @@
 use Rattle.std.specs.Prelude.{ℕ, zero, suc, ◌-◌, List, [], get_or, set, Float}
 use Rattle.std.specs.Float.{nan}
 use Rattle.numbers.specs.F32.{as_float}
-use Rattle.dx_units_inner.specs.Units.{operatorLevel, frequencyRatio}
+use Rattle.dx_units_inner.specs.Units.{operator_level, frequency_ratio}
 use Rattle.envelope_inner.specs.declared.Envelope.{Envelope}
-use Rattle.envelope_inner.specs.Set.{operatorSet}
+use Rattle.envelope_inner.specs.Set.{operator_set}
 use Rattle.patch.specs.declared.Operator.{Operator}
-use Rattle.patch.specs.Form.{operatorAt}
+use Rattle.patch.specs.Form.{operator_at}
 use Rattle.voice_setup.specs.declared.OperatorSetup.{OperatorSetup}
 use Rattle.voice_setup.specs.declared.Setup.{Setup}
 
 -- what stands past the last envelope: nothing asks for it
-abbrev pub noEnvelope : Envelope
-noEnvelope = record { stage = 0; phase = nan; start = nan; increment = []; level = []; scale = nan }
+abbrev pub no_envelope : Envelope
+no_envelope = record { stage = 0; phase = nan; start = nan; increment = []; level = []; scale = nan }
 
 -- envelope i of six
-abbrev pub envelopeAt : List Envelope → ℕ → Envelope
-envelopeAt es i = get_or es i noEnvelope
+abbrev pub envelope_at : List Envelope → ℕ → Envelope
+envelope_at es i = get_or es i no_envelope
 
 -- what scaling may add to a converted level
-unfoldable pub headroomOf : ℕ → Float
-headroomOf level = as_float (127 - level)
+unfoldable pub headroom_of : ℕ → Float
+headroom_of level = as_float (127 - level)
 
 -- one operator's envelope, headroom and ratio; `high` and `low` are the ratio's tables
-unfoldable pub operatorSetUp : List Float → List Float → Envelope → Operator → OperatorSetup
-operatorSetUp high low e o =
-    let level = operatorLevel o.level in
+unfoldable pub operator_set_up : List Float → List Float → Envelope → Operator → OperatorSetup
+operator_set_up high low e o =
+    let level = operator_level o.level in
     record {
-      envelope = operatorSet e o.envelope.rate o.envelope.level level;
-      level_headroom = headroomOf level;
-      tuned = record { ratio = frequencyRatio high low o.mode o.coarse o.fine o.detune };
+      envelope = operator_set e o.envelope.rate o.envelope.level level;
+      level_headroom = headroom_of level;
+      tuned = record { ratio = frequency_ratio high low o.mode o.coarse o.fine o.detune };
     }
 
 -- operator i put in its place
@@ -41,8 +41,8 @@ put_at i one s = record {
 }
 
 -- the first operators of a patch, in order
-unfoldable pub setUpTo : List Float → List Float → List Operator → ℕ → Setup → Setup
-setUpTo high low ops zero s = s
-setUpTo high low ops (suc k) s =
-    let t = setUpTo high low ops k s in
-    put_at k (operatorSetUp high low (envelopeAt t.operator_envelope k) (operatorAt ops k)) t
+unfoldable pub set_up_to : List Float → List Float → List Operator → ℕ → Setup → Setup
+set_up_to high low ops zero s = s
+set_up_to high low ops (suc k) s =
+    let t = set_up_to high low ops k s in
+    put_at k (operator_set_up high low (envelope_at t.operator_envelope k) (operator_at ops k)) t

@@ -1,9 +1,9 @@
 // What can be computed once a patch is loaded, after voice.rs's setup: for each operator its envelope, its headroom and
 // its frequency ratio. Helpers of the voice, which has checked the patch.
 ghost use Rattle.std.specs.Prelude.{◌≡◌, ◌≤◌, T};
-ghost use Rattle.dx_units_inner.specs.Tables.{levelChart};
-ghost use Rattle.patch.specs.Packed.{operatorFits, operatorsFit};
-ghost use Rattle.voice_setup.specs.Setup.{headroomOf, operatorSetUp, setUpTo};
+ghost use Rattle.dx_units_inner.specs.Tables.{level_chart};
+ghost use Rattle.patch.specs.Packed.{operator_fits, operators_fit};
+ghost use Rattle.voice_setup.specs.Setup.{headroom_of, operator_set_up, set_up_to};
 
 use dx_units_inner::Ratio;
 use envelope_inner::Envelope;
@@ -34,7 +34,7 @@ pub struct Setup {
 // with a level above 99.
 fn headroom(level: u8) -> f32
     requires { level ≤ 127 }
-    ensures { result ≡ headroomOf level }
+    ensures { result ≡ headroom_of level }
 {
     (127 - level) as f32
 }
@@ -46,8 +46,8 @@ fn operator_setup(
     e: Envelope,
     op: patch::Operator,
 ) -> OperatorSetup
-    requires { (chart.now ≡ levelChart) × T (operatorFits op) }
-    ensures { result ≡ operatorSetUp high.now low.now e op }
+    requires { (chart.now ≡ level_chart) × T (operator_fits op) }
+    ensures { result ≡ operator_set_up high.now low.now e op }
 {
     let level = dx_units_inner::operator_level(chart, op.level);
     let stages = op.envelope;
@@ -71,8 +71,8 @@ pub fn setup_operators(
     op: [patch::Operator; 6],
     before: Setup,
 ) -> Setup
-    requires { (operators ≤ 6) × T (operatorsFit op) }
-    ensures { result ≡ setUpTo high.now low.now op operators before }
+    requires { (operators ≤ 6) × T (operators_fit op) }
+    ensures { result ≡ set_up_to high.now low.now op operators before }
 {
     // In this order: behind the chart's making, `before` would be copied once more.
     let mut s = before;

@@ -37,8 +37,8 @@ returns c =
     call_at _ _ _ start.requires.0 _ start.requires.1 start.requires.2 _ _ _ c.before.before.source_of.ensures
     c.before.destination-of.ensures c.is-adding.ensures
 
-pub call-of-spec : {M : Type 1} → statement M
-call-of-spec =
+pub call_of_spec : {M : Type 1} → statement M
+call_of_spec =
     tie.close
     (tie.spec
     add-last

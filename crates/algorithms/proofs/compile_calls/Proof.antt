@@ -5,12 +5,12 @@ use mathlib.Core.Bool.{Bool}
 use mathlib.Core.List.{List}
 use Prim.Native.Nat.{ℕ, ◌-◌, ◌≤◌}
 use lib.ListN.{length, take, length-set}
-use Rattle.algorithms.specs.Chain.{rowFrom, Within}
-use Rattle.algorithms.specs.Plan.{noPlan, planFrom, ready, unready, extended}
+use Rattle.algorithms.specs.Chain.{row_from, Within}
+use Rattle.algorithms.specs.Plan.{no_plan, plan_from, ready, unready, extended}
 use Rattle.algorithms.specs.declared.Call.{Call}
-use Rattle.algorithms.proofs.Lengths.{rendered-at}
-use Rattle.algorithms.proofs.Steps.{Flags, flags-start, lacking-at, unready-at, step-at, done_at, call-input}
-use Rattle.algorithms.proofs.Steps.{call-output, flags-agree, flags-more}
+use Rattle.algorithms.proofs.Lengths.{rendered_at}
+use Rattle.algorithms.proofs.Steps.{Flags, flags_start, lacking_at, unready_at, step_at, done_at, call_input}
+use Rattle.algorithms.proofs.Steps.{call_output, flags_agree, flags_more}
 use borrow.Author.Rules.{rules}
 use native.Mathlib.Omega.{arith}
 use Rattle.algorithms.proofs.compile_calls.Statement.{statement}
@@ -23,11 +23,11 @@ record Walked (operators : ℕ) (row : List ℕ) (flags : List Bool) (calls : Li
   fewer : count ≤ first
   past : first ≤ operators
   shown : Flags flags calls count
-  rest : planFrom operators 0 first (record {
+  rest : plan_from operators 0 first (record {
     count =
         count;
     calls = calls;
-  }) (rowFrom operators first row) ≡ planFrom operators 0 0 noPlan (take operators row)
+  }) (row_from operators first row) ≡ plan_from operators 0 0 no_plan (take operators row)
 
 abbrev invariant-loop : tie.invariant-loop
 invariant-loop operators row flags₀ calls₀ count₀ first₀ flags calls count first =
@@ -48,8 +48,8 @@ tested : (c : tie.After-is-unready invariant-loop decreases-loop)
 tested c =
     let at-loop = c.before.before.before.before.before.before in
     let e = c.before.before.call-of.ensures in
-    c.is-unready.ensures ∙ flags-agree at-loop.loop.flags _ _ _ at-loop.loop.invariant.shown
-    (call-input _ _ _ _ e) (call-output _ _ _ _ e)
+    c.is-unready.ensures ∙ flags_agree at-loop.loop.flags _ _ _ at-loop.loop.invariant.shown
+    (call_input _ _ _ _ e) (call_output _ _ _ _ e)
 
 no-call-requires : tie.Need-no-call-requires invariant-loop decreases-loop
 no-call-requires c κs = search rules
@@ -60,7 +60,7 @@ loop-holds c = record {
   slots = refl;
   fewer = omega arith;
   past = omega arith;
-  shown = flags-start _;
+  shown = flags_start _;
   rest = rw c.no_call.ensures;
 }
 
@@ -77,15 +77,15 @@ returns : tie.Need-returns invariant-loop decreases-loop
 returns c =
     let at = c.before.before.before in
     c.refused.ensures
-    ∙ lacking-at _ _ _ (within at) (record { count = at.before.loop.count; calls = at.before.loop.calls }) _
-    c.before.before.rendered-length.ensures c.before.if1.true ∙ at.before.loop.invariant.rest
+    ∙ lacking_at _ _ _ (within at) (record { count = at.before.loop.count; calls = at.before.loop.calls }) _
+    c.before.before.rendered_length.ensures c.before.if1.true ∙ at.before.loop.invariant.rest
 
 call-of-requires : tie.Need-call-of-requires invariant-loop decreases-loop
-call-of-requires c κs = (within c.before.before, omega arith, rendered-at _ _ _ (within c.before.before) _ c.before.rendered-length.ensures)
+call-of-requires c κs = (within c.before.before, omega arith, rendered_at _ _ _ (within c.before.before) _ c.before.rendered_length.ensures)
 
 is-unready-requires : tie.Need-is-unready-requires invariant-loop decreases-loop
 is-unready-requires c κs =
-    (call-input _ _ _ _ c.before.call-of.ensures, call-output _ _ _ _ c.before.call-of.ensures)
+    (call_input _ _ _ _ c.before.call-of.ensures, call_output _ _ _ _ c.before.call-of.ensures)
 
 cast-refused-2 : tie.Need-overflow-cast-refused-2 invariant-loop decreases-loop
 cast-refused-2 c = omega arith
@@ -100,8 +100,8 @@ returns-2 c =
     let at-rendered-length = at-if1.before in
     let at = c.before.before.before.before.before.before.before in
     c.refused2.ensures
-    ∙ unready-at _ _ _ (within at) (record { count = at.before.loop.count; calls = at.before.loop.calls }) _
-    at-rendered-length.rendered-length.ensures _ at-call-of.call-of.ensures at-if1.if1.false _
+    ∙ unready_at _ _ _ (within at) (record { count = at.before.loop.count; calls = at.before.loop.calls }) _
+    at-rendered-length.rendered_length.ensures _ at-call-of.call-of.ensures at-if1.if1.false _
     (tested c.before.before) c.before.if2.true
     ∙ at.before.loop.invariant.rest
 
@@ -111,7 +111,7 @@ cast-output c = omega arith
 array-write-flags : tie.Need-array-write-flags invariant-loop decreases-loop
 array-write-flags c =
     let at-call-of = c.before.before.before.before in
-    omega (arith, call-output _ _ _ _ at-call-of.call-of.ensures)
+    omega (arith, call_output _ _ _ _ at-call-of.call-of.ensures)
 
 mul-calls : tie.Need-overflow-mul-calls invariant-loop decreases-loop
 mul-calls c = omega arith
@@ -126,7 +126,7 @@ add-first : tie.Need-overflow-add-first invariant-loop decreases-loop
 add-first c =
     let at-rendered-length = c.before.before.before.before.before.before in
     let far = at-rendered-length.before in
-    omega (arith, rendered-at _ _ _ (within (far)) _ at-rendered-length.rendered-length.ensures)
+    omega (arith, rendered_at _ _ _ (within (far)) _ at-rendered-length.rendered_length.ensures)
 
 loop-less : tie.Need-loop-smaller invariant-loop decreases-loop
 loop-less c = omega arith
@@ -138,17 +138,17 @@ loop-again c =
     let at-if1 = at-call-of.before in
     let at-rendered-length = at-if1.before in
     let at = c.before.before.before.before.before.before.before in
-    let n = at-rendered-length.rendered-length.ensures in
+    let n = at-rendered-length.rendered_length.ensures in
     let e = at-call-of.call-of.ensures in
     let t = tested c.before.before in
     record {
       size = simp length-set at.before.loop.invariant.size;
       slots = simp length-set at.before.loop.invariant.slots;
       fewer = omega arith;
-      past = rendered-at _ _ _ (within at) _ n;
-      shown = flags-more at.before.loop.flags _ _ _ at.before.loop.invariant.size (omega arith)
-          (call-output _ _ _ _ e) (sym t ∙ c.before.if2.false) at.before.loop.invariant.shown;
-      rest = step-at _ _ _ (within at)
+      past = rendered_at _ _ _ (within at) _ n;
+      shown = flags_more at.before.loop.flags _ _ _ at.before.loop.invariant.size (omega arith)
+          (call_output _ _ _ _ e) (sym t ∙ c.before.if2.false) at.before.loop.invariant.shown;
+      rest = step_at _ _ _ (within at)
           (record { count = at.before.loop.count; calls = at.before.loop.calls }) _ n _ e at-if1.if1.false _ t
           c.before.if2.false ∙ at.before.loop.invariant.rest;
     }
@@ -162,8 +162,8 @@ returns-3 c =
     done_at _ _ _ (record { count = c.before.loop.count; calls = c.before.loop.calls }) start.requires.0
     start.requires.1 c.loop-test.false ∙ c.before.loop.invariant.rest
 
-pub compile-calls-spec : {M : Type 1} → statement M
-compile-calls-spec =
+pub compile_calls_spec : {M : Type 1} → statement M
+compile_calls_spec =
     tie.close
     (tie.spec
     invariant-loop

@@ -1,7 +1,7 @@
 -- `algorithms::compile_row` meets its contract. Assumes nothing.
 use mathlib.Core.Path.{sym, ◌∙◌}
 use Rattle.algorithms.specs.Plan.{planned}
-use Rattle.algorithms.proofs.Steps.{counted-few}
+use Rattle.algorithms.proofs.Steps.{counted_few}
 use borrow.Author.Rules.{rules}
 use Rattle.algorithms.proofs.compile_row.Statement.{statement}
 use Rattle.algorithms.proofs.compile_row.Tie as tie
@@ -11,7 +11,7 @@ is-counted-requires c κs = search rules
 
 compile-calls-requires : tie.Need-compile-calls-requires
 compile-calls-requires c κs =
-    (search rules, counted-few _ (sym c.before.before.is-counted.ensures ∙ c.before.if1.true))
+    (search rules, counted_few _ (sym c.before.before.is-counted.ensures ∙ c.before.if1.true))
 
 returns : tie.Need-returns
 unfolding planned
@@ -26,7 +26,7 @@ returns-2 : tie.Need-returns-2
 unfolding planned
 returns-2 c = rw (sym c.before.before.is-counted.ensures ∙ c.before.if1.false) c.refused.ensures
 
-pub compile-row-spec : {M : Type 1} → statement M
-compile-row-spec =
+pub compile_row_spec : {M : Type 1} → statement M
+compile_row_spec =
     tie.close
     (tie.spec is-counted-requires compile-calls-requires returns refused-requires returns-2)

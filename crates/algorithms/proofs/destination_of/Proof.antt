@@ -8,5 +8,5 @@ returns : tie.Need-returns
 unfolding destination
 returns c = refl
 
-pub destination-of-spec : {M : Type 1} → statement M
-destination-of-spec = tie.close (tie.spec returns)
+pub destination_of_spec : {M : Type 1} → statement M
+destination_of_spec = tie.close (tie.spec returns)

@@ -3,9 +3,9 @@ use mathlib.Core.Path.{◌≡◌, sym, ◌∙◌}
 use Prim.Native.Nat.{◌≤◌, ◌-◌}
 use lib.ListN.{length, drop, length-map}
 use borrow.Author.Tests.{not-true, not-false}
-use Rattle.algorithms.specs.Plan.{sameCalls, samePlan, firstCalls}
-use Rattle.algorithms.proofs.Same.{same-done}
-use Rattle.algorithms.proofs.Together.{first-slots, other-count, first-same, some-behind, none-behind}
+use Rattle.algorithms.specs.Plan.{same_calls, same_plan, first_calls}
+use Rattle.algorithms.proofs.Same.{same_done}
+use Rattle.algorithms.proofs.Together.{first_slots, other_count, first_same, some_behind, none_behind}
 use borrow.Author.Rules.{rules}
 use native.Mathlib.Omega.{arith}
 use Rattle.algorithms.proofs.ends_at.Statement.{statement}
@@ -14,7 +14,7 @@ use Rattle.algorithms.proofs.ends_at.Tie as tie
 abbrev invariant-loop : tie.invariant-loop
 invariant-loop k plan none i₀ i =
     (k ≤ i) × (i ≤ 6)
-    × (sameCalls (drop i plan.calls) (drop i (firstCalls k plan).calls) ≡ samePlan plan (firstCalls k plan))
+    × (same_calls (drop i plan.calls) (drop i (first_calls k plan).calls) ≡ same_plan plan (first_calls k plan))
 
 abbrev decreases-loop : tie.decreases-loop
 decreases-loop k plan none i₀ i = 6 - i
@@ -27,13 +27,13 @@ cast-if1 : tie.Need-overflow-cast-if1 invariant-loop decreases-loop
 cast-if1 c = omega arith
 
 returns : tie.Need-returns invariant-loop decreases-loop
-returns c = other-count _ _ c.if1.true
+returns c = other_count _ _ c.if1.true
 
 no-call-requires : tie.Need-no-call-requires invariant-loop decreases-loop
 no-call-requires c κs = search rules
 
 loop-holds : tie.Need-loop-init invariant-loop decreases-loop
-loop-holds c = (omega arith, omega arith, first-same _ _ (long c.before.before) c.before.before.requires c.before.if1.false)
+loop-holds c = (omega arith, omega arith, first_same _ _ (long c.before.before) c.before.before.requires c.before.if1.false)
 
 mul-c : tie.Need-overflow-mul-c invariant-loop decreases-loop
 mul-c c = omega arith
@@ -47,7 +47,7 @@ same-call-requires c κs = search rules
 returns-2 : tie.Need-returns-2 invariant-loop decreases-loop
 returns-2 c =
     let at = c.before.before.before.before in
-    sym (some-behind _ _ (long at.before.before.before) _ at.loop.invariant.0 (omega arith) _ at.before.no_call.ensures _ c.before.same-call.ensures (not-true _ c.if2.true)) ∙ at.loop.invariant.2
+    sym (some_behind _ _ (long at.before.before.before) _ at.loop.invariant.0 (omega arith) _ at.before.no_call.ensures _ c.before.same-call.ensures (not-true _ c.if2.true)) ∙ at.loop.invariant.2
 
 add-i : tie.Need-overflow-add-i invariant-loop decreases-loop
 add-i c = omega arith
@@ -58,16 +58,16 @@ loop-less c = omega arith
 loop-again : tie.Need-loop-preserved invariant-loop decreases-loop
 loop-again c =
     let at = c.before.before.before.before in
-    (omega arith, omega arith, none-behind _ _ (long at.before.before.before) _ at.loop.invariant.0 (omega arith) _ at.before.no_call.ensures _ c.before.same-call.ensures (not-false _ c.if2.false) ∙ at.loop.invariant.2)
+    (omega arith, omega arith, none_behind _ _ (long at.before.before.before) _ at.loop.invariant.0 (omega arith) _ at.before.no_call.ensures _ c.before.same-call.ensures (not-false _ c.if2.false) ∙ at.loop.invariant.2)
 
 returns-3 : tie.Need-returns-3 invariant-loop decreases-loop
 returns-3 c =
     let at = c.before in
     let start = at.before.before.before in
-    sym (same-done start.args.t1.calls _ at.loop.i (omega (arith, long start)) (omega (arith, first-slots start.args.t1 start.args.k))) ∙ at.loop.invariant.2
+    sym (same_done start.args.t1.calls _ at.loop.i (omega (arith, long start)) (omega (arith, first_slots start.args.t1 start.args.k))) ∙ at.loop.invariant.2
 
-pub ends-at-spec : {M : Type 1} → statement M
-ends-at-spec =
+pub ends_at_spec : {M : Type 1} → statement M
+ends_at_spec =
     tie.close
     (tie.spec
     invariant-loop

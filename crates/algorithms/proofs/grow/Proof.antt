@@ -3,8 +3,8 @@
 use Prim.Native.Nat.{◌≤◌, ◌<◌, ◌+◌, ◌-◌}
 use mathlib.Core.Path.{◌≡◌, sym, ◌∙◌}
 use borrow.Author.Tests.{not-true, not-false}
-use Rattle.algorithms.specs.Chain.{rowFrom, Within, grown}
-use Rattle.algorithms.proofs.Lengths.{last-at, end-at, more-at}
+use Rattle.algorithms.specs.Chain.{row_from, Within, grown}
+use Rattle.algorithms.proofs.Lengths.{last_at, end_at, more_at}
 use borrow.Author.Rules.{rules}
 use native.Mathlib.Omega.{arith}
 use Rattle.algorithms.proofs.grow.Statement.{statement}
@@ -13,7 +13,7 @@ use Rattle.algorithms.proofs.grow.Tie as tie
 abbrev invariant-loop : tie.invariant-loop
 invariant-loop operators row first last₀ last =
     (first ≤ last) × (last < operators)
-    × (grown (rowFrom operators first row) ≡ (last - first) + grown (rowFrom operators last row))
+    × (grown (row_from operators first row) ≡ (last - first) + grown (row_from operators last row))
 
 abbrev decreases-loop : tie.decreases-loop
 decreases-loop operators row first last₀ last = operators - last
@@ -44,7 +44,7 @@ returns c =
     let at = c.before.before.before.before.before in
     let start = at.before in
     let w : Within start.args.operators at.loop.last start.args.row.now = record { whole = start.requires.whole; most = start.requires.most; one = at.loop.invariant.1 } in
-    omega (arith, end-at _ _ _ w (omega arith) (sym c.before.grows.ensures ∙ not-true _ c.if1.true))
+    omega (arith, end_at _ _ _ w (omega arith) (sym c.before.grows.ensures ∙ not-true _ c.if1.true))
 
 loop-less : tie.Need-loop-smaller invariant-loop decreases-loop
 loop-less c = omega arith
@@ -54,7 +54,7 @@ loop-again c =
     let at = c.before.before.before.before.before in
     let start = at.before in
     let w : Within start.args.operators at.loop.last start.args.row.now = record { whole = start.requires.whole; most = start.requires.most; one = at.loop.invariant.1 } in
-    let x = more-at _ _ _ w (omega arith) (sym c.before.grows.ensures ∙ not-false _ c.if1.false) in
+    let x = more_at _ _ _ w (omega arith) (sym c.before.grows.ensures ∙ not-false _ c.if1.false) in
     (omega arith, omega arith, omega (arith, x))
 
 add-result : tie.Need-overflow-add-result invariant-loop decreases-loop
@@ -68,7 +68,7 @@ returns-2 c =
     let at = c.before in
     let start = at.before in
     let w : Within start.args.operators at.loop.last start.args.row.now = record { whole = start.requires.whole; most = start.requires.most; one = at.loop.invariant.1 } in
-    omega (arith, last-at _ _ _ w (omega arith))
+    omega (arith, last_at _ _ _ w (omega arith))
 
 pub grow_spec : {M : Type 1} → statement M
 grow_spec =

@@ -1,5 +1,5 @@
 -- `algorithms::grows` meets its contract. Assumes nothing.
-use Rattle.algorithms.proofs.Lengths.{grows-unmet, grows-met}
+use Rattle.algorithms.proofs.Lengths.{grows_unmet, grows_met}
 use borrow.Author.Rules.{rules}
 use Rattle.algorithms.proofs.grows.Statement.{statement}
 use Rattle.algorithms.proofs.grows.Tie as tie
@@ -12,7 +12,7 @@ source-of-requires c κs = search rules
 
 returns : tie.Need-returns
 returns c =
-    grows-unmet _ _ _ _ c.before.before.destination-of.ensures c.before.source_of.ensures c.if1.true
+    grows_unmet _ _ _ _ c.before.before.destination-of.ensures c.before.source_of.ensures c.if1.true
 
 is-adding-requires : tie.Need-is-adding-requires
 is-adding-requires c κs = search rules
@@ -20,10 +20,10 @@ is-adding-requires c κs = search rules
 returns-2 : tie.Need-returns-2
 returns-2 c =
     let at-destination-of = c.before.before.before in
-    grows-met _ _ _ _ at-destination-of.destination-of.ensures c.before.before.source_of.ensures
+    grows_met _ _ _ _ at-destination-of.destination-of.ensures c.before.before.source_of.ensures
     c.before.if1.false _ c.is-adding.ensures
 
-pub grows-spec : {M : Type 1} → statement M
-grows-spec =
+pub grows_spec : {M : Type 1} → statement M
+grows_spec =
     tie.close
     (tie.spec destination-of-requires source-of-requires returns is-adding-requires returns-2)

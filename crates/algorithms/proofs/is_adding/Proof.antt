@@ -8,5 +8,5 @@ returns : tie.Need-returns
 unfolding adding
 returns c = refl
 
-pub is-adding-spec : {M : Type 1} → statement M
-is-adding-spec = tie.close (tie.spec returns)
+pub is_adding_spec : {M : Type 1} → statement M
+is_adding_spec = tie.close (tie.spec returns)

@@ -12,5 +12,5 @@ returns-2 : tie.Need-returns-2
 unfolding counted
 returns-2 c = rw (ne_eqb _ 4 c.if1.false)
 
-pub is-counted-spec : {M : Type 1} → statement M
-is-counted-spec = tie.close (tie.spec returns returns-2)
+pub is_counted_spec : {M : Type 1} → statement M
+is_counted_spec = tie.close (tie.spec returns returns-2)

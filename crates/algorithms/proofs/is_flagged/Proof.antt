@@ -8,5 +8,5 @@ returns : tie.Need-returns
 unfolding flagged
 returns c = refl
 
-pub is-flagged-spec : {M : Type 1} → statement M
-is-flagged-spec = tie.close (tie.spec returns)
+pub is_flagged_spec : {M : Type 1} → statement M
+is_flagged_spec = tie.close (tie.spec returns)

@@ -15,5 +15,5 @@ returns : tie.Need-returns
 unfolding modulating
 returns c = ap (λ (d : ℕ). not (eqb d 0)) c.destination-of.ensures
 
-pub is-modulating-spec : {M : Type 1} → statement M
-is-modulating-spec = tie.close (tie.spec destination-of-requires returns)
+pub is_modulating_spec : {M : Type 1} → statement M
+is_modulating_spec = tie.close (tie.spec destination-of-requires returns)

@@ -1,7 +1,7 @@
 -- `algorithms::is_modulator` meets its contract. Assumes nothing.
 use mathlib.Core.Path.{sym, ◌∙◌}
 use borrow.Author.Tests.{not-true, not-false}
-use Rattle.algorithms.proofs.Tables.{no-such-row, no-such-operator, row-operator}
+use Rattle.algorithms.proofs.Tables.{no_such_row, no_such_operator, row_operator}
 use borrow.Author.Rules.{rules}
 use Rattle.algorithms.proofs.is_modulator.Statement.{statement}
 use Rattle.algorithms.proofs.is_modulator.Tie as tie
@@ -10,12 +10,12 @@ is-tabled-requires : tie.Need-is-tabled-requires
 is-tabled-requires c κs = search rules
 
 returns : tie.Need-returns
-returns c = no-such-row _ _ _ _ (sym c.before.is-tabled.ensures ∙ not-true _ c.if1.true)
+returns c = no_such_row _ _ _ _ (sym c.before.is-tabled.ensures ∙ not-true _ c.if1.true)
 
 returns-2 : tie.Need-returns-2
 returns-2 c =
     let at-if1 = c.before in
-    no-such-operator _ _ _ _ (sym at-if1.before.is-tabled.ensures ∙ not-false _ at-if1.if1.false)
+    no_such_operator _ _ _ _ (sym at-if1.before.is-tabled.ensures ∙ not-false _ at-if1.if1.false)
     c.if2.true
 
 row-of-requires : tie.Need-row-of-requires
@@ -38,11 +38,11 @@ returns-3 c =
     let at-row-of = at-byte-at.before.before in
     let at-if2 = at-row-of.before in
     let at-if1 = at-if2.before in
-    row-operator _ _ _ _ (sym at-if1.before.is-tabled.ensures ∙ not-false _ at-if1.if1.false)
+    row_operator _ _ _ _ (sym at-if1.before.is-tabled.ensures ∙ not-false _ at-if1.if1.false)
     at-if2.if2.false at-row-of.row_of.ensures at-byte-at.byte_at.ensures c.is-modulating.ensures
 
-pub is-modulator-spec : {M : Type 1} → statement M
-is-modulator-spec =
+pub is_modulator_spec : {M : Type 1} → statement M
+is_modulator_spec =
     tie.close
     (tie.spec
     is-tabled-requires

@@ -6,15 +6,15 @@ use mathlib.Core.List.{List}
 use Prim.Native.Nat.{ℕ, ◌+◌, ◌-◌, ◌≤◌}
 use lib.ListN.{length, length-set}
 use borrow.Author.Tests.{not-true, not-false}
-use Rattle.algorithms.specs.Chain.{rowFrom, Within}
-use Rattle.algorithms.specs.Plan.{planFrom, planned, ready, unready, extended, firstCalls}
+use Rattle.algorithms.specs.Chain.{row_from, Within}
+use Rattle.algorithms.specs.Plan.{plan_from, planned, ready, unready, extended, first_calls}
 use Rattle.algorithms.specs.declared.Call.{Call}
 use Rattle.algorithms.specs.declared.Plan.{Plan}
-use Rattle.algorithms.proofs.Lengths.{rendered-at}
-use Rattle.algorithms.proofs.Steps.{Flags, flags-start, lacking-at, unready-at, step-at, done_at, counted-few}
-use Rattle.algorithms.proofs.Steps.{call-input, call-output, flags-agree, flags-more}
-use Rattle.algorithms.proofs.Together.{first_count, first-slots, first_next, uncounted, no-plan-of, whole-plan}
-use Rattle.algorithms.proofs.Together.{other-call}
+use Rattle.algorithms.proofs.Lengths.{rendered_at}
+use Rattle.algorithms.proofs.Steps.{Flags, flags_start, lacking_at, unready_at, step_at, done_at, counted_few}
+use Rattle.algorithms.proofs.Steps.{call_input, call_output, flags_agree, flags_more}
+use Rattle.algorithms.proofs.Together.{first_count, first_slots, first_next, uncounted, no_plan_of, whole_plan}
+use Rattle.algorithms.proofs.Together.{other_call}
 use borrow.Author.Rules.{rules}
 use native.Mathlib.Omega.{arith}
 use Rattle.algorithms.proofs.is_plan_of.Statement.{statement}
@@ -25,8 +25,8 @@ record Walked (operators : ℕ) (row : List ℕ) (plan : Plan) (flags : List Boo
   most : operators ≤ 6
   fewer : k ≤ first
   past : first ≤ operators
-  shown : Flags flags (firstCalls k plan).calls (firstCalls k plan).count
-  rest : planFrom operators 0 first (firstCalls k plan) (rowFrom operators first row) ≡ planned operators row
+  shown : Flags flags (first_calls k plan).calls (first_calls k plan).count
+  rest : plan_from operators 0 first (first_calls k plan) (row_from operators first row) ≡ planned operators row
 
 abbrev invariant-loop : tie.invariant-loop
 invariant-loop operators row plan ready₀ k₀ first₀ ready k first = Walked operators row plan ready k first
@@ -48,7 +48,7 @@ within c =
 abbrev so_far : tie.In-loop invariant-loop decreases-loop → Plan
 so_far c =
     let at-start = c.before.before.before.before in
-    firstCalls c.before.loop.k at-start.args.t3
+    first_calls c.before.loop.k at-start.args.t3
 
 -- the test of the code is the definition's
 tested : (c : tie.After-is-unready invariant-loop decreases-loop)
@@ -57,24 +57,24 @@ tested c =
     let e = c.before.before.call-of.ensures in
     let at = c.before.before.before.before.before.before.before in
     c.is-unready.ensures
-    ∙ flags-agree at.before.loop.ready (so_far at).calls (so_far at).count _ at.before.loop.invariant.shown
-    (call-input _ _ _ _ e) (call-output _ _ _ _ e)
+    ∙ flags_agree at.before.loop.ready (so_far at).calls (so_far at).count _ at.before.loop.invariant.shown
+    (call_input _ _ _ _ e) (call_output _ _ _ _ e)
 
 -- behind the call d of n operators the walk goes on
-abbrev Goes_on : tie.In-loop invariant-loop decreases-loop → ℕ → Call → Type 0
-Goes_on c n d =
+abbrev GoesOn : tie.In-loop invariant-loop decreases-loop → ℕ → Call → Type 0
+GoesOn c n d =
     let start = c.before.before.before.before in
     let next = c.before.loop.first + n in
-    planFrom start.args.operators 0 next (extended (so_far c) d)
-    (rowFrom start.args.operators next start.args.t2) ≡ planned start.args.operators start.args.t2
+    plan_from start.args.operators 0 next (extended (so_far c) d)
+    (row_from start.args.operators next start.args.t2) ≡ planned start.args.operators start.args.t2
 
-stepped : (c : tie.Else3 invariant-loop decreases-loop) → Goes_on c.before.before.before.before.before.before.before.before c.before.before.before.before.before.before.rendered-length.result c.before.before.before.call-of.result
+stepped : (c : tie.Else3 invariant-loop decreases-loop) → GoesOn c.before.before.before.before.before.before.before.before c.before.before.before.before.before.before.rendered_length.result c.before.before.before.call-of.result
 stepped c =
     let at-call-of = c.before.before.before in
     let at-if2 = at-call-of.before.before in
     let at-rendered-length = at-if2.before in
     let at = c.before.before.before.before.before.before.before.before in
-    step-at _ _ _ (within at) (so_far at) _ at-rendered-length.rendered-length.ensures _
+    step_at _ _ _ (within at) (so_far at) _ at-rendered-length.rendered_length.ensures _
     at-call-of.call-of.ensures
     at-if2.if2.false _ (tested c.before) c.if3.false ∙ at.before.loop.invariant.rest
 
@@ -85,15 +85,15 @@ returns : tie.Need-returns invariant-loop decreases-loop
 returns c = uncounted _ _ _ (sym c.before.is-counted.ensures ∙ not-true _ c.if1.true)
 
 loop-holds : tie.Need-loop-init invariant-loop decreases-loop
-unfolding firstCalls planned
+unfolding first_calls planned
 loop-holds c =
     let e = sym c.before.is-counted.ensures ∙ not-false _ c.if1.false in
     record {
       size = refl;
-      most = counted-few _ e;
+      most = counted_few _ e;
       fewer = omega arith;
       past = omega arith;
-      shown = flags-start _;
+      shown = flags_start _;
       rest = rw e;
     }
 
@@ -103,16 +103,16 @@ rendered-length-requires c κs = within c.before
 returns-2 : tie.Need-returns-2 invariant-loop decreases-loop
 returns-2 c =
     let at = c.before.before.before in
-    no-plan-of _ _ _ 3 _ refl (lacking-at _ _ _ (within at) (so_far at) _ c.before.rendered-length.ensures c.if2.true ∙ at.before.loop.invariant.rest)
+    no_plan_of _ _ _ 3 _ refl (lacking_at _ _ _ (within at) (so_far at) _ c.before.rendered_length.ensures c.if2.true ∙ at.before.loop.invariant.rest)
 
 call-of-requires : tie.Need-call-of-requires invariant-loop decreases-loop
 call-of-requires c κs =
     let far = c.before.before.before.before in
-    (within (far), omega arith, rendered-at _ _ _ (within (far)) _ c.before.before.rendered-length.ensures)
+    (within (far), omega arith, rendered_at _ _ _ (within (far)) _ c.before.before.rendered_length.ensures)
 
 is-unready-requires : tie.Need-is-unready-requires invariant-loop decreases-loop
 is-unready-requires c κs =
-    (call-input _ _ _ _ c.before.call-of.ensures, call-output _ _ _ _ c.before.call-of.ensures)
+    (call_input _ _ _ _ c.before.call-of.ensures, call_output _ _ _ _ c.before.call-of.ensures)
 
 returns-3 : tie.Need-returns-3 invariant-loop decreases-loop
 returns-3 c =
@@ -120,8 +120,8 @@ returns-3 c =
     let at-if2 = at-call-of.before.before in
     let at-rendered-length = at-if2.before in
     let at = c.before.before.before.before.before.before.before.before in
-    no-plan-of _ _ _ 4 _ refl
-    (unready-at _ _ _ (within at) (so_far at) _ at-rendered-length.rendered-length.ensures _
+    no_plan_of _ _ _ 4 _ refl
+    (unready_at _ _ _ (within at) (so_far at) _ at-rendered-length.rendered_length.ensures _
     at-call-of.call-of.ensures at-if2.if2.false _ (tested c.before) c.if3.true
     ∙ at.before.loop.invariant.rest)
 
@@ -137,7 +137,7 @@ same-call-requires c κs = search rules
 returns-4 : tie.Need-returns-4 invariant-loop decreases-loop
 returns-4 c =
     let far = c.before.before.before in
-    other-call _ _ _ _ _ _ _ (omega arith) (stepped (far))
+    other_call _ _ _ _ _ _ _ (omega arith) (stepped (far))
     (sym c.before.same-call.ensures ∙ not-true _ c.if4.true)
 
 cast-output : tie.Need-overflow-cast-output invariant-loop decreases-loop
@@ -146,7 +146,7 @@ cast-output c = omega arith
 array-write-ready : tie.Need-array-write-ready invariant-loop decreases-loop
 array-write-ready c =
     let at-call-of = c.before.before.before.before.before.before.before in
-    omega (arith, call-output _ _ _ _ at-call-of.call-of.ensures)
+    omega (arith, call_output _ _ _ _ at-call-of.call-of.ensures)
 
 add-k : tie.Need-overflow-add-k invariant-loop decreases-loop
 add-k c = omega arith
@@ -155,7 +155,7 @@ add-first : tie.Need-overflow-add-first invariant-loop decreases-loop
 add-first c =
     let at-rendered-length = c.before.before.before.before.before.before.before.before.before.before in
     let far = at-rendered-length.before.before in
-    omega (arith, rendered-at _ _ _ (within (far)) _ at-rendered-length.rendered-length.ensures)
+    omega (arith, rendered_at _ _ _ (within (far)) _ at-rendered-length.rendered_length.ensures)
 
 loop-less : tie.Need-loop-smaller invariant-loop decreases-loop
 loop-less c = omega arith
@@ -176,11 +176,11 @@ loop-again c =
       size = simp length-set at.before.loop.invariant.size;
       most = at.before.loop.invariant.most;
       fewer = omega arith;
-      past = rendered-at _ _ _ (within at) _ at-rendered-length.rendered-length.ensures;
-      shown = rw (← next) (flags-more at.before.loop.ready (so_far at).calls (so_far at).count _
+      past = rendered_at _ _ _ (within at) _ at-rendered-length.rendered_length.ensures;
+      shown = rw (← next) (flags_more at.before.loop.ready (so_far at).calls (so_far at).count _
           at.before.loop.invariant.size
-          (omega (arith, first_count plan at.before.loop.k, first-slots plan at.before.loop.k))
-          (call-output _ _ _ _ e) (sym (tested (far)) ∙ at-if3.if3.false) at.before.loop.invariant.shown);
+          (omega (arith, first_count plan at.before.loop.k, first_slots plan at.before.loop.k))
+          (call_output _ _ _ _ e) (sym (tested (far)) ∙ at-if3.if3.false) at.before.loop.invariant.shown);
       rest = rw (← next) (stepped (at-if3));
     }
 
@@ -191,11 +191,11 @@ returns-5 : tie.Need-returns-5 invariant-loop decreases-loop
 returns-5 c =
     let at = c.before.before in
     let start = at.before.before.before in
-    c.ends_at.ensures ∙ whole-plan _ _ _ (firstCalls at.loop.k start.args.t3)
+    c.ends_at.ensures ∙ whole_plan _ _ _ (first_calls at.loop.k start.args.t3)
     (done_at _ _ _ _ (long start) at.loop.invariant.most c.before.loop-test.false ∙ at.loop.invariant.rest)
 
-pub is-plan-of-spec : {M : Type 1} → statement M
-is-plan-of-spec =
+pub is_plan_of_spec : {M : Type 1} → statement M
+is_plan_of_spec =
     tie.close
     (tie.spec
     invariant-loop

@@ -3,8 +3,8 @@ use mathlib.Core.Path.{◌≡◌, sym, ◌∙◌}
 use mathlib.Core.Bool.{true, false}
 use borrow.Author.Tests.{not-true, not-false}
 use Rattle.algorithms.specs.Plan.{counted}
-use Rattle.algorithms.proofs.Steps.{counted-some}
-use Rattle.algorithms.proofs.Tables.{wrong-operators, empty-table, broken-table, long-table, row-test}
+use Rattle.algorithms.proofs.Steps.{counted_some}
+use Rattle.algorithms.proofs.Tables.{wrong_operators, empty_table, broken_table, long_table, row_test}
 use borrow.Author.Rules.{rules}
 use Rattle.algorithms.proofs.is_tabled.Statement.{statement}
 use Rattle.algorithms.proofs.is_tabled.Tie as tie
@@ -19,31 +19,31 @@ counts : (c : tie.Else1) → counted c.before.before.before.args.operators ≡ t
 counts c = sym c.before.is-counted.ensures ∙ not-false _ c.if1.false
 
 returns : tie.Need-returns
-returns c = wrong-operators _ _ _ (uncounted c)
+returns c = wrong_operators _ _ _ (uncounted c)
 
 returns-2 : tie.Need-returns-2
-returns-2 c = empty-table _ _ _ (counts c.before) c.if2.true
+returns-2 c = empty_table _ _ _ (counts c.before) c.if2.true
 
 rem-if3 : tie.Need-nonzero-rem-if3
-rem-if3 c = counted-some _ (counts c.before)
+rem-if3 c = counted_some _ (counts c.before)
 
 returns-3 : tie.Need-returns-3
-returns-3 c = broken-table _ _ _ (counts c.before.before) c.before.if2.false c.if3.true
+returns-3 c = broken_table _ _ _ (counts c.before.before) c.before.if2.false c.if3.true
 
 div-rows : tie.Need-nonzero-div-rows
-div-rows c = counted-some _ (counts c.before.before)
+div-rows c = counted_some _ (counts c.before.before)
 
 returns-4 : tie.Need-returns-4
 returns-4 c =
     let far = c.before.before.before in
-    long-table _ _ _ (counts (far)) c.before.before.if2.false c.before.if3.false c.if4.true
+    long_table _ _ _ (counts (far)) c.before.before.if2.false c.before.if3.false c.if4.true
 
 returns-5 : tie.Need-returns-5
 returns-5 c =
     let far = c.before.before.before in
-    row-test _ _ _ (counts (far)) c.before.before.if2.false c.before.if3.false c.if4.false
+    row_test _ _ _ (counts (far)) c.before.before.if2.false c.before.if3.false c.if4.false
 
-pub is-tabled-spec : {M : Type 1} → statement M
-is-tabled-spec =
+pub is_tabled_spec : {M : Type 1} → statement M
+is_tabled_spec =
     tie.close
     (tie.spec is-counted-requires returns returns-2 rem-if3 returns-3 div-rows returns-4 returns-5)

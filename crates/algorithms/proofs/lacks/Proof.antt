@@ -12,5 +12,5 @@ returns c = rw c.before.if1.true
 returns-2 : tie.Need-returns-2
 returns-2 c = search rules
 
-pub lacks-spec : {M : Type 1} → statement M
-lacks-spec = tie.close (tie.spec element-copy-out-result returns returns-2)
+pub lacks_spec : {M : Type 1} → statement M
+lacks_spec = tie.close (tie.spec element-copy-out-result returns returns-2)

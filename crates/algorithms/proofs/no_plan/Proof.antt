@@ -9,5 +9,5 @@ no-call-requires c κs = search rules
 returns : tie.Need-returns
 returns c = simp c.no_call.ensures
 
-pub no-plan-spec : {M : Type 1} → statement M
-no-plan-spec = tie.close (tie.spec no-call-requires returns)
+pub no_plan_spec : {M : Type 1} → statement M
+no_plan_spec = tie.close (tie.spec no-call-requires returns)

@@ -9,5 +9,5 @@ no-plan-requires c κs = search rules
 returns : tie.Need-returns
 returns c = simp c.no-plan.ensures
 
-pub refused-spec : {M : Type 1} → statement M
-refused-spec = tie.close (tie.spec no-plan-requires returns)
+pub refused_spec : {M : Type 1} → statement M
+refused_spec = tie.close (tie.spec no-plan-requires returns)

@@ -1,5 +1,5 @@
 -- `algorithms::rendered_length` meets its contract. Assumes nothing.
-use Rattle.algorithms.proofs.Lengths.{several-at, dry-rendered, own-rendered, none-rendered}
+use Rattle.algorithms.proofs.Lengths.{several_at, dry_rendered, own_rendered, none_rendered}
 use borrow.Author.Rules.{rules}
 use Rattle.algorithms.proofs.rendered_length.Statement.{statement}
 use Rattle.algorithms.proofs.rendered_length.Tie as tie
@@ -10,7 +10,7 @@ call-length-requires c κs = search rules
 returns : tie.Need-returns
 returns c =
     let at = c.before in
-    several-at _ _ _ at.before.requires _ at.Call-length.ensures c.if1.true
+    several_at _ _ _ at.before.requires _ at.Call-length.ensures c.if1.true
 
 element-copy-out-source-of : tie.Need-element-copy-out-source-of
 element-copy-out-source-of c = search rules
@@ -22,7 +22,7 @@ returns-2 : tie.Need-returns-2
 returns-2 c =
     let at-if1 = c.before.before.before in
     let at = c.before.before.before.before in
-    dry-rendered _ _ _ at.before.requires _ at.Call-length.ensures at-if1.if1.false _
+    dry_rendered _ _ _ at.before.requires _ at.Call-length.ensures at-if1.if1.false _
     c.before.source_of.ensures c.if2.true
 
 element-copy-out-is-flagged : tie.Need-element-copy-out-is-flagged
@@ -37,7 +37,7 @@ returns-3 c =
     let at-source-of = at-if2.before in
     let at-if1 = at-source-of.before.before in
     let at = c.before.before.before.before.before.before.before in
-    own-rendered _ _ _ at.before.requires _ at.Call-length.ensures at-if1.if1.false _
+    own_rendered _ _ _ at.before.requires _ at.Call-length.ensures at-if1.if1.false _
     at-source-of.source_of.ensures at-if2.if2.false _ c.before.is-flagged.ensures c.if3.true
 
 returns-4 : tie.Need-returns-4
@@ -46,11 +46,11 @@ returns-4 c =
     let at-source-of = at-if2.before in
     let at-if1 = at-source-of.before.before in
     let at = c.before.before.before.before.before.before.before in
-    none-rendered _ _ _ at.before.requires _ at.Call-length.ensures at-if1.if1.false _
+    none_rendered _ _ _ at.before.requires _ at.Call-length.ensures at-if1.if1.false _
     at-source-of.source_of.ensures at-if2.if2.false _ c.before.is-flagged.ensures c.if3.false
 
-pub rendered-length-spec : {M : Type 1} → statement M
-rendered-length-spec =
+pub rendered_length_spec : {M : Type 1} → statement M
+rendered_length_spec =
     tie.close
     (tie.spec
     call-length-requires

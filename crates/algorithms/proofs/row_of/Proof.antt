@@ -35,8 +35,8 @@ returns c =
     let e : a.row * a.operators + a.operators - a.row * a.operators ≡ a.operators = omega arith in
     c.six-bytes.ensures ∙ rw e
 
-pub row-of-spec : {M : Type 1} → statement M
-row-of-spec =
+pub row_of_spec : {M : Type 1} → statement M
+row_of_spec =
     tie.close
     (tie.spec
     mul-start

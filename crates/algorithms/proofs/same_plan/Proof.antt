@@ -3,28 +3,28 @@ use mathlib.Core.Path.{◌≡◌, refl, sym, ◌∙◌}
 use Prim.Native.Nat.{◌≤◌, ◌-◌}
 use lib.ListN.{length, drop, length-map}
 use borrow.Author.Tests.{eq-eqb, ne_eqb, not-true, not-false}
-use Rattle.algorithms.specs.Plan.{sameCalls, samePlan}
-use Rattle.algorithms.proofs.Same.{same_more, same-less, same-done}
+use Rattle.algorithms.specs.Plan.{same_calls, same_plan}
+use Rattle.algorithms.proofs.Same.{same_more, same_less, same_done}
 use borrow.Author.Rules.{rules}
 use native.Mathlib.Omega.{arith}
 use Rattle.algorithms.proofs.same_plan.Statement.{statement}
 use Rattle.algorithms.proofs.same_plan.Tie as tie
 
 abbrev invariant-loop : tie.invariant-loop
-invariant-loop a b k₀ k = (k ≤ 6) × (sameCalls (drop k a.calls) (drop k b.calls) ≡ sameCalls a.calls b.calls)
+invariant-loop a b k₀ k = (k ≤ 6) × (same_calls (drop k a.calls) (drop k b.calls) ≡ same_calls a.calls b.calls)
 
 abbrev decreases-loop : tie.decreases-loop
 decreases-loop a b k₀ k = 6 - k
 
 -- a plan has room for six calls
-long-a : (c : tie.Start invariant-loop decreases-loop) → length c.args.t1.calls ≡ 6
-long-a c = simp length-map at c.well-formed.0.1.1.1.0.1.0.1
+long_a : (c : tie.Start invariant-loop decreases-loop) → length c.args.t1.calls ≡ 6
+long_a c = simp length-map at c.well-formed.0.1.1.1.0.1.0.1
 
-long-b : (c : tie.Start invariant-loop decreases-loop) → length c.args.t2.calls ≡ 6
-long-b c = simp length-map at c.well-formed.1.0.1.1.1.0.1.0.1
+long_b : (c : tie.Start invariant-loop decreases-loop) → length c.args.t2.calls ≡ 6
+long_b c = simp length-map at c.well-formed.1.0.1.1.1.0.1.0.1
 
 returns : tie.Need-returns invariant-loop decreases-loop
-unfolding samePlan
+unfolding same_plan
 returns c = rw (ne_eqb _ _ c.if1.true)
 
 loop-holds : tie.Need-loop-init invariant-loop decreases-loop
@@ -46,11 +46,11 @@ same-call-requires : tie.Need-same-call-requires invariant-loop decreases-loop
 same-call-requires c κs = search rules
 
 returns-2 : tie.Need-returns-2 invariant-loop decreases-loop
-unfolding samePlan
+unfolding same_plan
 returns-2 c =
     let at = c.before.before.before.before.before in
     let start = at.before.before in
-    rw (eq-eqb _ _ at.before.if1.false) (sym (sym at.loop.invariant.1 ∙ same-less start.args.t1.calls start.args.t2.calls at.loop.k (omega (arith, long-a start)) (omega (arith, long-b start)) (sym c.before.same-call.ensures ∙ not-true _ c.if2.true)))
+    rw (eq-eqb _ _ at.before.if1.false) (sym (sym at.loop.invariant.1 ∙ same_less start.args.t1.calls start.args.t2.calls at.loop.k (omega (arith, long_a start)) (omega (arith, long_b start)) (sym c.before.same-call.ensures ∙ not-true _ c.if2.true)))
 
 add-k : tie.Need-overflow-add-k invariant-loop decreases-loop
 add-k c = omega arith
@@ -62,17 +62,17 @@ loop-again : tie.Need-loop-preserved invariant-loop decreases-loop
 loop-again c =
     let at = c.before.before.before.before.before in
     let start = at.before.before in
-    (omega arith, sym (same_more start.args.t1.calls start.args.t2.calls at.loop.k (omega (arith, long-a start)) (omega (arith, long-b start)) (sym c.before.same-call.ensures ∙ not-false _ c.if2.false)) ∙ at.loop.invariant.1)
+    (omega arith, sym (same_more start.args.t1.calls start.args.t2.calls at.loop.k (omega (arith, long_a start)) (omega (arith, long_b start)) (sym c.before.same-call.ensures ∙ not-false _ c.if2.false)) ∙ at.loop.invariant.1)
 
 returns-3 : tie.Need-returns-3 invariant-loop decreases-loop
-unfolding samePlan
+unfolding same_plan
 returns-3 c =
     let at = c.before in
     let start = at.before.before in
-    rw (eq-eqb _ _ at.before.if1.false) (sym (same-done start.args.t1.calls start.args.t2.calls at.loop.k (omega (arith, long-a start)) (omega (arith, long-b start))) ∙ at.loop.invariant.1)
+    rw (eq-eqb _ _ at.before.if1.false) (sym (same_done start.args.t1.calls start.args.t2.calls at.loop.k (omega (arith, long_a start)) (omega (arith, long_b start))) ∙ at.loop.invariant.1)
 
-pub same-plan-spec : {M : Type 1} → statement M
-same-plan-spec =
+pub same_plan_spec : {M : Type 1} → statement M
+same_plan_spec =
     tie.close
     (tie.spec
     invariant-loop

@@ -30,8 +30,8 @@ returns c =
     let at-byte-at = at-byte-at2.before in
     simp (at-byte-at.byte_at.ensures, at-byte-at2.byte-at2.ensures, at-byte-at3.byte-at3.ensures, c.before.before.byte-at4.ensures, c.before.byte-at5.ensures, c.byte-at6.ensures)
 
-pub six-bytes-spec : {M : Type 1} → statement M
-six-bytes-spec =
+pub six_bytes_spec : {M : Type 1} → statement M
+six_bytes_spec =
     tie.close
     (tie.spec
     byte-at-requires

@@ -8,5 +8,5 @@ returns : tie.Need-returns
 unfolding source
 returns c = refl
 
-pub source-of-spec : {M : Type 1} → statement M
-source-of-spec = tie.close (tie.spec returns)
+pub source_of_spec : {M : Type 1} → statement M
+source_of_spec = tie.close (tie.spec returns)

@@ -9,5 +9,5 @@ returns c = kept_row _ _ c.if1.true
 returns-2 : tie.Need-returns-2
 returns-2 c = zero_row _ _ c.if1.false
 
-pub with-row-spec : {M : Type 1} → statement M
-with-row-spec = tie.close (tie.spec returns returns-2)
+pub with_row_spec : {M : Type 1} → statement M
+with_row_spec = tie.close (tie.spec returns returns-2)

@@ -18,5 +18,5 @@ returns-2 c =
     let at-start = c.before.before.before in
     rw (le-leb at-start.args.slot 31 c.before.if1.false, c.validate.ensures)
 
-pub number-spec : {M : Type 1} → statement M
-number-spec = tie.close (tie.spec returns validate-requires returns-2)
+pub number_spec : {M : Type 1} → statement M
+number_spec = tie.close (tie.spec returns validate-requires returns-2)

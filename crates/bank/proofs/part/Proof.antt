@@ -3,7 +3,7 @@ use mathlib.Core.Path.{sym, ◌∙◌}
 use borrow.Author.Tests.{ne_eqb}
 use borrow.Author.Rules.{rules}
 use Rattle.bank.specs.Bank.{number_of, part_of, place_of}
-use Rattle.bank.proofs.Numbers.{sound-slot}
+use Rattle.bank.proofs.Numbers.{sound_slot}
 use Rattle.bank.proofs.part.Statement.{statement}
 use Rattle.bank.proofs.part.Tie as tie
 
@@ -24,7 +24,7 @@ returns c =
 slot-part-requires : tie.Need-slot-part-requires
 slot-part-requires c κs =
     let at-start = c.before.before.before in
-    sound-slot at-start.args.dump.now at-start.args.slot (sym c.before.number.ensures ∙ c.if1.false)
+    sound_slot at-start.args.dump.now at-start.args.slot (sym c.before.number.ensures ∙ c.if1.false)
 
 returns-2 : tie.Need-returns-2
 unfolding part_of place_of
@@ -32,8 +32,8 @@ returns-2 c =
     let accepted = sym c.before.before.number.ensures ∙ c.before.if1.false in
     record { bytes = rw (accepted, c.slot-part.ensures.0); place = rw (accepted, c.slot-part.ensures.1) }
 
-pub part-spec : {M : Type 1} → statement M
-part-spec =
+pub part_spec : {M : Type 1} → statement M
+part_spec =
     tie.close
     (tie.spec
     number-requires

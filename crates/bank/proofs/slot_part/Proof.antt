@@ -33,6 +33,6 @@ returns c =
       ap (λ (o : ℕ). (dump.ref_ptr.0, o)) (add_comm (6 + c.before.args.slot * 128) dump.ref_ptr.1),
     )
 
-pub slot-part-spec : {M : Type 1} → statement M
-slot-part-spec =
+pub slot_part_spec : {M : Type 1} → statement M
+slot_part_spec =
     tie.close (tie.spec mul-a add_a add-e sub-result part-result-start part-result-end returns)

@@ -45,5 +45,5 @@ returns-5 c =
       eq-eqb _ _ c.if4.false,
     )
 
-pub closing-number-spec : {M : Type 1} → statement M
-closing-number-spec = tie.close (tie.spec returns returns-2 returns-3 returns-4 returns-5)
+pub closing_number_spec : {M : Type 1} → statement M
+closing_number_spec = tie.close (tie.spec returns returns-2 returns-3 returns-4 returns-5)

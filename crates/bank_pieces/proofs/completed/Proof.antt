@@ -15,5 +15,5 @@ cast-t7 c = search rules
 returns : tie.Need-returns
 returns c = simp c.before.moved.ensures
 
-pub completed-spec : {M : Type 1} → statement M
-completed-spec = tie.close (tie.spec moved-requires sub-t5 cast-t7 returns)
+pub completed_spec : {M : Type 1} → statement M
+completed_spec = tie.close (tie.spec moved-requires sub-t5 cast-t7 returns)

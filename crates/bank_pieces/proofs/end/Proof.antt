@@ -44,7 +44,7 @@ returns-3 c =
       c.before.close.ensures,
     )
 
-pub end-spec : {M : Type 1} → statement M
-end-spec =
+pub end_spec : {M : Type 1} → statement M
+end_spec =
     tie.close
     (tie.spec is-possible-requires returns closing-number-requires close-requires returns-2 returns-3)

@@ -19,5 +19,5 @@ returns-3 c =
     let two = c.before.before.before.before.before in
     simp (two.before.before.if1.false, lt-leb _ _ two.if2.false)
 
-pub is-possible-spec : {M : Type 1} → statement M
-is-possible-spec = tie.close (tie.spec returns returns-2 returns-3)
+pub is_possible_spec : {M : Type 1} → statement M
+is_possible_spec = tie.close (tie.spec returns returns-2 returns-3)

@@ -1,7 +1,7 @@
 -- `bank_pieces::is_right` meets its contract. Assumes nothing.
 use borrow.Author.Rules.{rules}
 use borrow.Author.Tests.{eq-eqb, ne_eqb, lt-ltb, le-ltb}
-use Rattle.bank_pieces.specs.Pieces.{isRight}
+use Rattle.bank_pieces.specs.Pieces.{is_right}
 use Rattle.bank_pieces.proofs.is_right.Statement.{statement}
 use Rattle.bank_pieces.proofs.is_right.Tie as tie
 
@@ -18,7 +18,7 @@ in-row-requires : tie.Need-in-row-requires
 in-row-requires c κs = search rules
 
 returns : tie.Need-returns
-unfolding isRight
+unfolding is_right
 returns c =
     let one = c.before.before.before in
     simp (lt-ltb _ _ one.if1.true, c.in_row.ensures, one.before.bank-form.ensures)
@@ -27,7 +27,7 @@ in-row-requires-2 : tie.Need-in-row-requires-2
 in-row-requires-2 c κs = search rules
 
 returns-2 : tie.Need-returns-2
-unfolding isRight
+unfolding is_right
 returns-2 c =
     let two = c.before in
     simp (
@@ -38,11 +38,11 @@ returns-2 c =
     )
 
 returns-3 : tie.Need-returns-3
-unfolding isRight
+unfolding is_right
 returns-3 c = simp (le-ltb _ _ c.before.if1.false, ne_eqb _ _ c.if2.false)
 
-pub is-right-spec : {M : Type 1} → statement M
-is-right-spec =
+pub is_right_spec : {M : Type 1} → statement M
+is_right_spec =
     tie.close
     (tie.spec
     bank-form-requires

@@ -9,24 +9,24 @@ use borrow.Author.Rules.{rules}
 use lib.ListN.{length, get_or, drop, drop_of_length-le}
 use lib.Seq.{drop-cons}
 use Rattle.bank_pieces.specs.declared.Receiver.{Receiver}
-use Rattle.bank_pieces.specs.Pieces.{passed, passedAll}
+use Rattle.bank_pieces.specs.Pieces.{passed, passed_all}
 use Rattle.bank_pieces.proofs.pass_all.Statement.{statement}
 use Rattle.bank_pieces.proofs.pass_all.Tie as tie
 
 -- one byte more
 next : (bytes : List ℕ) (all r q : Receiver) (i : ℕ) → i < length bytes → q ≡ passed r (get_or bytes i 0)
-    → passedAll r (drop i bytes) ≡ all → passedAll q (drop (i + 1) bytes) ≡ all
-unfolding passedAll
+    → passed_all r (drop i bytes) ≡ all → passed_all q (drop (i + 1) bytes) ≡ all
+unfolding passed_all
 next bytes all r q i h e f =
-    rw (e, add-one i) (sym (ap (passedAll r) (drop-cons bytes i 0 h)) ∙ f)
+    rw (e, add-one i) (sym (ap (passed_all r) (drop-cons bytes i 0 h)) ∙ f)
 
 -- and none left
-done : (bytes : List ℕ) (all r : Receiver) (i : ℕ) → length bytes ≤ i → passedAll r (drop i bytes) ≡ all → r ≡ all
-unfolding passedAll
-done bytes all r i h f = sym (ap (passedAll r) (drop_of_length-le bytes h)) ∙ f
+done : (bytes : List ℕ) (all r : Receiver) (i : ℕ) → length bytes ≤ i → passed_all r (drop i bytes) ≡ all → r ≡ all
+unfolding passed_all
+done bytes all r i h f = sym (ap (passed_all r) (drop_of_length-le bytes h)) ∙ f
 
 abbrev invariant-loop : tie.invariant-loop
-invariant-loop bytes r₀ i₀ r i = (i ≤ length bytes) × (passedAll r (drop i bytes) ≡ passedAll r₀ bytes)
+invariant-loop bytes r₀ i₀ r i = (i ≤ length bytes) × (passed_all r (drop i bytes) ≡ passed_all r₀ bytes)
 
 abbrev decreases-loop : tie.decreases-loop
 decreases-loop bytes r₀ i₀ r i = length bytes - i
@@ -60,8 +60,8 @@ returns c =
     done at-loop.before.before.args.bytes.now _ at-loop.loop.r at-loop.loop.i (omega arith)
     at-loop.loop.invariant.1
 
-pub pass-all-spec : {M : Type 1} → statement M
-pass-all-spec =
+pub pass_all_spec : {M : Type 1} → statement M
+pass_all_spec =
     tie.close
     (tie.spec
     invariant-loop

@@ -3,7 +3,7 @@ use mathlib.Core.Path.{sym, ◌∙◌, ap}
 use native.Mathlib.Omega.{arith}
 use borrow.Author.Rules.{rules}
 use lib.Seq.{length-take-le}
-use Rattle.bank_pieces.proofs.Calls.{passed-rest}
+use Rattle.bank_pieces.proofs.Calls.{passed_rest}
 use Rattle.bank_pieces.proofs.pass_rest.Statement.{statement}
 use Rattle.bank_pieces.proofs.pass_rest.Tie as tie
 
@@ -30,13 +30,13 @@ returns c =
     let at-pass-all = c.before in
     let at_least_lem = at-pass-all.before.before in
     let at-start = at_least_lem.before.before.before in
-    passed-rest at-start.args.r at-start.args.piece.now at_least_lem.least.result
+    passed_rest at-start.args.r at-start.args.piece.now at_least_lem.least.result
     at-pass-all.pass_all.result _ at-start.requires (omega arith)
     (omega (arith, at_least_lem.least.ensures, at_least_lem.before.up_to_lem.ensures)) at-pass-all.pass_all.ensures
     c.counted.ensures
 
-pub pass-rest-spec : {M : Type 1} → statement M
-pass-rest-spec =
+pub pass_rest_spec : {M : Type 1} → statement M
+pass_rest_spec =
     tie.close
     (tie.spec
     up-to-requires

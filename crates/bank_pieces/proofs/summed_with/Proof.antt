@@ -6,23 +6,23 @@ use Prim.Native.Nat.{ℕ, ◌+◌, ◌%◌, ◌<◌, ◌≤◌}
 use native.Mathlib.Omega.{arith}
 use borrow.Author.Rules.{rules}
 use borrow.Author.Tests.{le-leb, lt-leb}
-use Rattle.dump.specs.Dump.{total, largestOf}
-use Rattle.bank_pieces.specs.Pieces.{summedWith}
+use Rattle.dump.specs.Dump.{total, largest_of}
+use Rattle.bank_pieces.specs.Pieces.{summed_with}
 use Rattle.bank_pieces.proofs.summed_with.Statement.{statement}
 use Rattle.bank_pieces.proofs.summed_with.Tie as tie
 
-module _ (sum : ℕ) (patch : List ℕ) (s m : ℕ) (e : s ≡ total patch % 128) (f : m ≡ largestOf patch) where
-  high-before : 127 < sum → 128 + (sum % 128 + s) % 128 ≡ summedWith sum patch
-  unfolding summedWith
-  high-before h = rw (lt-leb sum 127 h) (omega arith)
+module _ (sum : ℕ) (patch : List ℕ) (s m : ℕ) (e : s ≡ total patch % 128) (f : m ≡ largest_of patch) where
+  high_before : 127 < sum → 128 + (sum % 128 + s) % 128 ≡ summed_with sum patch
+  unfolding summed_with
+  high_before h = rw (lt-leb sum 127 h) (omega arith)
 
-  high-now : sum ≤ 127 → 127 < m → 128 + (sum % 128 + s) % 128 ≡ summedWith sum patch
-  unfolding summedWith
-  high-now l h = rw (le-leb sum 127 l, lt-leb (largestOf patch) 127 (omega arith)) (omega arith)
+  high_now : sum ≤ 127 → 127 < m → 128 + (sum % 128 + s) % 128 ≡ summed_with sum patch
+  unfolding summed_with
+  high_now l h = rw (le-leb sum 127 l, lt-leb (largest_of patch) 127 (omega arith)) (omega arith)
 
-  low : sum ≤ 127 → m ≤ 127 → (sum % 128 + s) % 128 ≡ summedWith sum patch
-  unfolding summedWith
-  low l h = rw (le-leb sum 127 l, le-leb (largestOf patch) 127 (omega arith)) (omega arith)
+  low : sum ≤ 127 → m ≤ 127 → (sum % 128 + s) % 128 ≡ summed_with sum patch
+  unfolding summed_with
+  low l h = rw (le-leb sum 127 l, le-leb (largest_of patch) 127 (omega arith)) (omega arith)
 
 tally-requires : tie.Need-tally-requires
 tally-requires c κs = search rules
@@ -36,7 +36,7 @@ add-result c = search rules
 returns : tie.Need-returns
 returns c =
     let at-tally = c.before.before in
-    high-before _ _ _ _ at-tally.tally.ensures.0 at-tally.tally.ensures.1 c.if1.true
+    high_before _ _ _ _ at-tally.tally.ensures.0 at-tally.tally.ensures.1 c.if1.true
 
 add-result-2 : tie.Need-overflow-add-result-2
 add-result-2 c = search rules
@@ -45,7 +45,7 @@ returns-2 : tie.Need-returns-2
 returns-2 c =
     let one = c.before.before in
     let at-tally = one.before.before in
-    high-now _ _ _ _ at-tally.tally.ensures.0 at-tally.tally.ensures.1 one.if1.false c.if2.true
+    high_now _ _ _ _ at-tally.tally.ensures.0 at-tally.tally.ensures.1 one.if1.false c.if2.true
 
 returns-3 : tie.Need-returns-3
 returns-3 c =
@@ -53,6 +53,6 @@ returns-3 c =
     let at-tally = one.before.before in
     low _ _ _ _ at-tally.tally.ensures.0 at-tally.tally.ensures.1 one.if1.false c.if2.false
 
-pub summed-with-spec : {M : Type 1} → statement M
-summed-with-spec =
+pub summed_with_spec : {M : Type 1} → statement M
+summed_with_spec =
     tie.close (tie.spec tally-requires add_low add-result returns add-result-2 returns-2 returns-3)

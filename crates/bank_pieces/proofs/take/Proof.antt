@@ -5,7 +5,7 @@ use borrow.Author.Rules.{rules}
 use borrow.Author.Tests.{not-true, not-false}
 use Rattle.bank_pieces.specs.declared.Taken.{Taken}
 use Rattle.bank_pieces.specs.Pieces.{take_of}
-use Rattle.bank_pieces.proofs.Calls.{took-rest}
+use Rattle.bank_pieces.proofs.Calls.{took_rest}
 use Rattle.bank_pieces.proofs.take.Statement.{statement}
 use Rattle.bank_pieces.proofs.take.Tie as tie
 
@@ -59,7 +59,7 @@ returns-4 c =
     let yes = sym at-possible.is-possible.ensures ∙ not-false at-possible.is-possible.result one.if1.false in
     rw yes
     (ap (λ (t : Taken). record { taken = t; patch = patch }) c.whole.ensures
-    ∙ took-rest at-start.args.receiver at-start.args.piece.now patch three.if3.false
+    ∙ took_rest at-start.args.receiver at-start.args.piece.now patch three.if3.false
     at_rest.pass-rest.result at_rest.pass-rest.ensures)
 
 pub take_spec : {M : Type 1} → statement M

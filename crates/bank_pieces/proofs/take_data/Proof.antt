@@ -7,7 +7,7 @@ use lib.ListN.{length}
 use lib.Seq.{length-take-le}
 use Rattle.bank_pieces.specs.declared.Taken.{Taken}
 use Rattle.bank_pieces.specs.Pieces.{place_in}
-use Rattle.bank_pieces.proofs.Calls.{paste-part, took-some, took-whole}
+use Rattle.bank_pieces.proofs.Calls.{paste_part, took_some, took_whole}
 use Rattle.bank_pieces.proofs.take_data.Statement.{statement}
 use Rattle.bank_pieces.proofs.take_data.Tie as tie
 
@@ -36,7 +36,7 @@ returns c =
     let patch = at-start.args.patch.now in
     let wide : length patch ≡ 128 = omega arith in
     ap (λ (t : Taken). record { taken = t; patch = at-put.put.new.0 }) c.whole.ensures
-    ∙ took-some r piece patch wide at-start.requires.0 at-start.requires.1 c.before.moved.result
+    ∙ took_some r piece patch wide at-start.requires.0 at-start.requires.1 c.before.moved.result
     at-put.put.new.0 one.if1.true c.before.moved.ensures at-put.put.ensures
 
 take-patch-requires : tie.Need-take-patch-requires
@@ -71,13 +71,13 @@ returns-3 c =
     let patch = at-start.args.patch.now in
     let wide : length patch ≡ 128 = omega arith in
     ap (λ (t : Taken). record { taken = t; patch = at-put.put2.new.0 }) c.completed.ensures
-    ∙ took-whole r piece patch wide at-start.requires.0 at-start.requires.1 (128 - place_in r.count)
+    ∙ took_whole r piece patch wide at-start.requires.0 at-start.requires.1 (128 - place_in r.count)
     at_sum.summed-with.result at-put.put2.new.0 refl (omega arith)
-    (at-put.put2.ensures ∙ paste-part patch (place_in r.count) piece (128 - place_in r.count) (omega arith))
+    (at-put.put2.ensures ∙ paste_part patch (place_in r.count) piece (128 - place_in r.count) (omega arith))
     at_sum.summed-with.ensures
 
-pub take-data-spec : {M : Type 1} → statement M
-take-data-spec =
+pub take_data_spec : {M : Type 1} → statement M
+take_data_spec =
     tie.close
     (tie.spec
     sub-filled

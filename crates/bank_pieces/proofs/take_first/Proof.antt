@@ -9,8 +9,8 @@ use lib.ListN.{length, take, drop, length-drop}
 use lib.Seq.{length-take-le, take_all}
 use Rattle.bank_pieces.specs.declared.Receiver.{Receiver}
 use Rattle.bank_pieces.specs.declared.Taken.{Taken}
-use Rattle.bank_pieces.specs.Pieces.{Held, Took, passedAll, took}
-use Rattle.bank_pieces.proofs.Calls.{answered, onward, took-frame, took-on, taken-least, passed-count}
+use Rattle.bank_pieces.specs.Pieces.{Held, Took, passed_all, took}
+use Rattle.bank_pieces.proofs.Calls.{answered, onward, took_frame, took_on, taken_least, passed_count}
 use Rattle.bank_pieces.proofs.take_first.Statement.{statement}
 use Rattle.bank_pieces.proofs.take_first.Tie as tie
 
@@ -41,8 +41,8 @@ returns c =
     let held : Held = record { receiver = at-pass-all.pass_all.result; patch = patch } in
     ap (λ (t : Taken). record { taken = t; patch = patch }) c.whole.ensures
     ∙ ap (λ (k : ℕ). answered held k false 0) c.before.if1.true
-    ∙ took-frame at-start.args.r piece patch (omega arith) at-pass-all.pass_all.result
-    (at-pass-all.pass_all.ensures ∙ ap (passedAll at-start.args.r) all)
+    ∙ took_frame at-start.args.r piece patch (omega arith) at-pass-all.pass_all.result
+    (at-pass-all.pass_all.ensures ∙ ap (passed_all at-start.args.r) all)
 
 sub-take-data : tie.Need-overflow-sub-take-data
 sub-take-data c = search rules
@@ -61,7 +61,7 @@ take-data-requires c κs =
     let n = at_least_lem.least.result in
     let l = length-take-le n at-start.args.piece.now (omega arith) in
     let e = ap (λ (q : Receiver). q.count) at-pass-all.pass_all.ensures in
-    let k = passed-count at-start.args.r (take n at-start.args.piece.now) (omega arith) in
+    let k = passed_count at-start.args.r (take n at-start.args.piece.now) (omega arith) in
     (omega (arith, e, k, l), omega (arith, e, k, l))
 
 add-t8 : tie.Need-overflow-add-t8
@@ -78,7 +78,7 @@ add-t8 c =
     let e =
     ap (λ (t : Took). t.taken.taken)
     (at-data.take-data.ensures ∙ ap (λ (s : List ℕ). took at-pass-all.pass_all.result s patch) rest) in
-    let m = taken-least at-pass-all.pass_all.result (drop n piece) patch in
+    let m = taken_least at-pass-all.pass_all.result (drop n piece) patch in
     omega (arith, e, m, l)
 
 returns-2 : tie.Need-returns-2
@@ -92,11 +92,11 @@ returns-2 c =
     let n = at_least_lem.least.result in
     let l = length-take-le n piece (omega arith) in
     let e = ap (λ (q : Receiver). q.count) at-pass-all.pass_all.ensures in
-    let k = passed-count at-start.args.r (take n piece) (omega arith) in
+    let k = passed_count at-start.args.r (take n piece) (omega arith) in
     let rest = take_all (length piece - n) (drop n piece) (omega (arith, length-drop n piece)) in
     ap (onward n)
     (at-data.take-data.ensures ∙ ap (λ (s : List ℕ). took at-pass-all.pass_all.result s patch) rest)
-    ∙ took-on at-start.args.r at-pass-all.pass_all.result piece patch n (omega arith) (omega (arith, e, k, l))
+    ∙ took_on at-start.args.r at-pass-all.pass_all.result piece patch n (omega arith) (omega (arith, e, k, l))
     (omega arith) at-pass-all.pass_all.ensures
 
 pub take_first_spec : {M : Type 1} → statement M

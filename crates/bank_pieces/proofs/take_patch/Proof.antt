@@ -7,8 +7,8 @@ use borrow.Author.Rules.{rules}
 use lib.ListN.{length}
 use lib.Seq.{paste, length-take-le}
 use Rattle.bank_pieces.specs.declared.Taken.{Taken}
-use Rattle.bank_pieces.specs.Pieces.{summedWith}
-use Rattle.bank_pieces.proofs.Calls.{paste-part, whole_is, took-whole}
+use Rattle.bank_pieces.specs.Pieces.{summed_with}
+use Rattle.bank_pieces.proofs.Calls.{paste_part, whole_is, took_whole}
 use Rattle.bank_pieces.proofs.take_patch.Statement.{statement}
 use Rattle.bank_pieces.proofs.take_patch.Tie as tie
 
@@ -42,15 +42,15 @@ returns c =
     let piece = at-start.args.piece.now in
     let patch = at-start.args.patch.now in
     let wide : length patch ≡ 128 = omega arith in
-    let pasted = at-put.put.ensures ∙ paste-part patch 0 piece 128 (omega arith) in
+    let pasted = at-put.put.ensures ∙ paste_part patch 0 piece 128 (omega arith) in
     ap (λ (t : Taken). record { taken = t; patch = at-put.put.new.0 }) c.completed.ensures
-    ∙ took-whole r piece patch wide at-start.requires.0 at-start.requires.1 128 at_sum.summed-with.result
+    ∙ took_whole r piece patch wide at-start.requires.0 at-start.requires.1 128 at_sum.summed-with.result
     at-put.put.new.0 (omega arith) (omega arith)
     (pasted ∙ ap (λ (n : ℕ). paste patch n piece 128) (sym at-start.requires.2))
-    (at_sum.summed-with.ensures ∙ ap (summedWith r.sum) (whole_is patch piece wide ∙ sym pasted))
+    (at_sum.summed-with.ensures ∙ ap (summed_with r.sum) (whole_is patch piece wide ∙ sym pasted))
 
-pub take-patch-spec : {M : Type 1} → statement M
-take-patch-spec =
+pub take_patch_spec : {M : Type 1} → statement M
+take_patch_spec =
     tie.close
     (tie.spec
     slice-aggregate-put

@@ -45,8 +45,8 @@ end-requires c κs = search rules
 returns : tie.Need-returns invariant-loop decreases-loop
 returns c = search rules
 
-pub bench-pieces-spec : {M : Type 1} → statement M
-bench-pieces-spec =
+pub bench_pieces_spec : {M : Type 1} → statement M
+bench_pieces_spec =
     tie.close
     (tie.spec
     invariant-loop

@@ -46,8 +46,8 @@ same_length c = omega arith
 returns : tie.Need-returns invariant-loop decreases-loop
 returns c = tt
 
-pub bench-render-feedback-spec : {M : Type 1} → statement M
-bench-render-feedback-spec =
+pub bench_render_feedback_spec : {M : Type 1} → statement M
+bench_render_feedback_spec =
     tie.close
     (tie.spec
     invariant-loop

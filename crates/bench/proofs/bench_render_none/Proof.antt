@@ -43,8 +43,8 @@ same_length c = omega arith
 returns : tie.Need-returns invariant-loop decreases-loop
 returns c = tt
 
-pub bench-render-none-spec : {M : Type 1} → statement M
-bench-render-none-spec =
+pub bench_render_none_spec : {M : Type 1} → statement M
+bench_render_none_spec =
     tie.close
     (tie.spec
     invariant-loop

@@ -40,8 +40,8 @@ same_length c = omega arith
 returns : tie.Need-returns invariant-loop decreases-loop
 returns c = tt
 
-pub bench-sine-pm-spec : {M : Type 1} → statement M
-bench-sine-pm-spec =
+pub bench_sine_pm_spec : {M : Type 1} → statement M
+bench_sine_pm_spec =
     tie.close
     (tie.spec
     invariant-loop

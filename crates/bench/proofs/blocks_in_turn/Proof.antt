@@ -38,8 +38,8 @@ same_length c = c.before.loop.invariant.1
 returns : tie.Need-returns invariant-loop decreases-loop
 returns c = tt
 
-pub blocks-in-turn-spec : {M : Type 1} → statement M
-blocks-in-turn-spec =
+pub blocks_in_turn_spec : {M : Type 1} → statement M
+blocks_in_turn_spec =
     tie.close
     (tie.spec
     invariant-loop

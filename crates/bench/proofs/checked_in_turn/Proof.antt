@@ -35,8 +35,8 @@ loop-again c = tt
 returns : tie.Need-returns invariant-loop decreases-loop
 returns c = tt
 
-pub checked-in-turn-spec : {M : Type 1} → statement M
-checked-in-turn-spec =
+pub checked_in_turn_spec : {M : Type 1} → statement M
+checked_in_turn_spec =
     tie.close
     (tie.spec
     invariant-loop

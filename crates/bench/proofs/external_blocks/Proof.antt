@@ -43,8 +43,8 @@ same_length c = omega arith
 returns : tie.Need-returns invariant-loop decreases-loop
 returns c = tt
 
-pub external-blocks-spec : {M : Type 1} → statement M
-external-blocks-spec =
+pub external_blocks_spec : {M : Type 1} → statement M
+external_blocks_spec =
     tie.close
     (tie.spec
     invariant-loop

@@ -28,7 +28,7 @@ loop-again c = tt
 returns : tie.Need-returns invariant-loop decreases-loop
 returns c = tt
 
-pub mixed-bytes-spec : {M : Type 1} → statement M
-mixed-bytes-spec =
+pub mixed_bytes_spec : {M : Type 1} → statement M
+mixed_bytes_spec =
     tie.close
     (tie.spec invariant-loop decreases-loop loop-holds element-copy-out-all add-i loop-less loop-again returns)

@@ -47,8 +47,8 @@ loop-again c = omega arith
 returns : tie.Need-returns invariant-loop decreases-loop
 returns c = tt
 
-pub mixed-setup-spec : {M : Type 1} → statement M
-mixed-setup-spec =
+pub mixed_setup_spec : {M : Type 1} → statement M
+mixed_setup_spec =
     tie.close
     (tie.spec
     invariant-loop

@@ -41,8 +41,8 @@ loop-again c = tt
 returns : tie.Need-returns invariant-loop decreases-loop
 returns c = tt
 
-pub packed-in-turn-spec : {M : Type 1} → statement M
-packed-in-turn-spec =
+pub packed_in_turn_spec : {M : Type 1} → statement M
+packed_in_turn_spec =
     tie.close
     (tie.spec
     invariant-loop

@@ -56,8 +56,8 @@ same_length c = omega arith
 returns : tie.Need-returns invariant-loop decreases-loop
 returns c = tt
 
-pub sine-block-spec : {M : Type 1} → statement M
-sine-block-spec =
+pub sine_block_spec : {M : Type 1} → statement M
+sine_block_spec =
     tie.close
     (tie.spec
     invariant-loop

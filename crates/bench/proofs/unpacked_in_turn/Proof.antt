@@ -59,8 +59,8 @@ loop-again c = tt
 returns : tie.Need-returns invariant-loop decreases-loop
 returns c = tt
 
-pub unpacked-in-turn-spec : {M : Type 1} → statement M
-unpacked-in-turn-spec =
+pub unpacked_in_turn_spec : {M : Type 1} → statement M
+unpacked_in_turn_spec =
     tie.close
     (tie.spec
     invariant-loop

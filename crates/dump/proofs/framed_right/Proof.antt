@@ -29,8 +29,8 @@ returns c =
     at-start.args.dump.now at-in-rows.in_rows.result c.in_row.result at-in-rows.in_rows.ensures
     c.in_row.ensures
 
-pub framed-right-spec : {M : Type 1} → statement M
-framed-right-spec =
+pub framed_right_spec : {M : Type 1} → statement M
+framed_right_spec =
     tie.close
     (tie.spec
     in-rows-requires

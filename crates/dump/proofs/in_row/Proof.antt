@@ -8,5 +8,5 @@ returns : tie.Need-returns
 unfolding in_row
 returns c = refl
 
-pub in-row-spec : {M : Type 1} → statement M
-in-row-spec = tie.close (tie.spec returns)
+pub in_row_spec : {M : Type 1} → statement M
+in_row_spec = tie.close (tie.spec returns)

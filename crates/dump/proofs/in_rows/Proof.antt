@@ -6,13 +6,13 @@ use Prim.Native.Nat.{◌-◌, ◌≤◌}
 use borrow.Author.Rules.{rules}
 use native.Mathlib.Omega.{arith}
 use lib.ListN.{drop}
-use Rattle.dump.specs.Dump.{inRows}
-use Rattle.dump.proofs.Rows.{rows_next, rows-done}
+use Rattle.dump.specs.Dump.{in_rows}
+use Rattle.dump.proofs.Rows.{rows_next, rows_done}
 use Rattle.dump.proofs.in_rows.Statement.{statement}
 use Rattle.dump.proofs.in_rows.Tie as tie
 
 abbrev invariant-loop : tie.invariant-loop
-invariant-loop dump rows right₀ i₀ right i = (i ≤ 6) × (inRows rows dump 0 ≡ (right && inRows (drop i rows) dump i))
+invariant-loop dump rows right₀ i₀ right i = (i ≤ 6) × (in_rows rows dump 0 ≡ (right && in_rows (drop i rows) dump i))
 
 abbrev decreases-loop : tie.decreases-loop
 decreases-loop dump rows right₀ i₀ right i = 6 - i
@@ -51,11 +51,11 @@ returns : tie.Need-returns invariant-loop decreases-loop
 returns c =
     let at-loop = c.before in
     let at-start = at-loop.before.before in
-    rows-done at-start.args.dump.now at-start.args.t2 _ at-loop.loop.right at-loop.loop.i
+    rows_done at-start.args.dump.now at-start.args.t2 _ at-loop.loop.right at-loop.loop.i
     (omega arith) at-loop.loop.invariant.1
 
-pub in-rows-spec : {M : Type 1} → statement M
-in-rows-spec =
+pub in_rows_spec : {M : Type 1} → statement M
+in_rows_spec =
     tie.close
     (tie.spec
     invariant-loop

@@ -8,10 +8,10 @@ use borrow.Author.Tests.{not-true, not-false}
 use borrow.Author.Rules.{rules}
 use lib.ListN.{length, length-map}
 use Rattle.dump.specs.declared.Form.{Form}
-use Rattle.dump.specs.Dump.{size_of, framed, data_of, sumByte, total, largestOf}
-use Rattle.dump.proofs.Numbers.{is-10, is-11, is-12, is-13, is-0}
-use Rattle.dump.proofs.Places.{size_is, data_is, sum-byte-is}
-use Rattle.dump.proofs.Sums.{too-high, not-summed, is-summed}
+use Rattle.dump.specs.Dump.{size_of, framed, data_of, sum_byte, total, largest_of}
+use Rattle.dump.proofs.Numbers.{is_10, is_11, is_12, is_13, is_0}
+use Rattle.dump.proofs.Places.{size_is, data_is, sum_byte_is}
+use Rattle.dump.proofs.Sums.{too_high, not_summed, is_summed}
 use Rattle.dump.proofs.number.Statement.{statement}
 use Rattle.dump.proofs.number.Tie as tie
 
@@ -47,15 +47,15 @@ sum_is c =
     c.before.before.tally.ensures.0
     ∙ ap (λ (s : List ℕ). total s % 128) (sym (data_is (form c) (six (start c)) (dump c)))
 
-largest-is : (c : tie.After-struct-known3)
-    → c.before.before.tally.result.largest ≡ largestOf (data_of (form c) (dump c))
-largest-is c =
-    c.before.before.tally.ensures.1 ∙ ap largestOf (sym (data_is (form c) (six (start c)) (dump c)))
+largest_is : (c : tie.After-struct-known3)
+    → c.before.before.tally.result.largest ≡ largest_of (data_of (form c) (dump c))
+largest_is c =
+    c.before.before.tally.ensures.1 ∙ ap largest_of (sym (data_is (form c) (six (start c)) (dump c)))
 
 returns : tie.Need-returns
 returns c =
     let at-start = c.before.before in
-    is-10 at-start.args.form at-start.args.dump.now
+    is_10 at-start.args.form at-start.args.dump.now
     (λ e. omega (arith, size_is at-start.args.form (six at-start)))
 
 sub-if2 : tie.Need-overflow-sub-if2
@@ -64,7 +64,7 @@ sub-if2 c = search rules
 returns-2 : tie.Need-returns-2
 returns-2 c =
     let at-start = c.before.before.before.before in
-    is-10 at-start.args.form at-start.args.dump.now
+    is_10 at-start.args.form at-start.args.dump.now
     (λ e. c.if2.true (omega (arith, size_is at-start.args.form (six at-start))))
 
 framed-right-requires : tie.Need-framed-right-requires
@@ -75,7 +75,7 @@ returns-3 c =
     let at-if2 = c.before.before in
     let at-if1 = at-if2.before.before in
     let at-start = at-if1.before.before in
-    is-11 at-start.args.form at-start.args.dump.now
+    is_11 at-start.args.form at-start.args.dump.now
     (omega (arith, size_is at-start.args.form (six at-start)))
     (sym c.before.framed-right.ensures ∙ not-true c.before.framed-right.result c.if3.true)
 
@@ -98,14 +98,14 @@ shared-slice-read-c : tie.Need-shared-slice-read-c
 shared-slice-read-c c = search rules
 
 returns-4 : tie.Need-returns-4
-returns-4 c = let k = c.before in is-12 (form k) (dump k) (long k) (right k) (omega (arith, largest-is k))
+returns-4 c = let k = c.before in is_12 (form k) (dump k) (long k) (right k) (omega (arith, largest_is k))
 
 returns-5 : tie.Need-returns-5
 returns-5 c =
     let k = c.before.before in
-    is-13 (form k) (dump k) (long k) (right k) (omega (arith, largest-is k))
-    (too-high (data_of (form k) (dump k)) (sumByte (form k) (dump k))
-    (omega (arith, sum-byte-is (form k) (six (start k)) (dump k))))
+    is_13 (form k) (dump k) (long k) (right k) (omega (arith, largest_is k))
+    (too_high (data_of (form k) (dump k)) (sum_byte (form k) (dump k))
+    (omega (arith, sum_byte_is (form k) (six (start k)) (dump k))))
 
 add-if6 : tie.Need-overflow-add-if6
 add-if6 c = search rules
@@ -113,20 +113,20 @@ add-if6 c = search rules
 returns-6 : tie.Need-returns-6
 returns-6 c =
     let k = c.before.before.before.before in
-    is-13 (form k) (dump k) (long k) (right k) (omega (arith, largest-is k))
-    (not-summed (data_of (form k) (dump k)) (sumByte (form k) (dump k)) _ (sum_is k)
-    (λ e. c.if6.true (omega (arith, sum-byte-is (form k) (six (start k)) (dump k)))))
+    is_13 (form k) (dump k) (long k) (right k) (omega (arith, largest_is k))
+    (not_summed (data_of (form k) (dump k)) (sum_byte (form k) (dump k)) _ (sum_is k)
+    (λ e. c.if6.true (omega (arith, sum_byte_is (form k) (six (start k)) (dump k)))))
 
 returns-7 : tie.Need-returns-7
 returns-7 c =
     let k = c.before.before.before.before in
-    is-0 (form k) (dump k) (long k) (right k) (omega (arith, largest-is k))
-    (is-summed (data_of (form k) (dump k)) (sumByte (form k) (dump k)) _ (sum_is k)
-    (omega (arith, sum-byte-is (form k) (six (start k)) (dump k)))
-    (omega (arith, sum-byte-is (form k) (six (start k)) (dump k))))
+    is_0 (form k) (dump k) (long k) (right k) (omega (arith, largest_is k))
+    (is_summed (data_of (form k) (dump k)) (sum_byte (form k) (dump k)) _ (sum_is k)
+    (omega (arith, sum_byte_is (form k) (six (start k)) (dump k)))
+    (omega (arith, sum_byte_is (form k) (six (start k)) (dump k))))
 
-pub number-spec : {M : Type 1} → statement M
-number-spec =
+pub number_spec : {M : Type 1} → statement M
+number_spec =
     tie.close
     (tie.spec
     returns

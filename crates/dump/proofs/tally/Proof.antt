@@ -6,20 +6,20 @@ use native.Mathlib.Omega.{arith}
 use borrow.Author.Rules.{rules}
 use lib.ListN.{length, take}
 use lib.Seq.{take_all}
-use Rattle.dump.specs.Dump.{total, largestOf}
-use Rattle.dump.proofs.Sums.{total-take, largest-take}
+use Rattle.dump.specs.Dump.{total, largest_of}
+use Rattle.dump.proofs.Sums.{total_take, largest_take}
 use Rattle.dump.proofs.tally.Statement.{statement}
 use Rattle.dump.proofs.tally.Tie as tie
 
 abbrev invariant-loop : tie.invariant-loop
 invariant-loop s sum₀ largest₀ i₀ sum largest i =
-    (i ≤ length s) × (sum ≡ total (take i s) % 128) × (largest ≡ largestOf (take i s))
+    (i ≤ length s) × (sum ≡ total (take i s) % 128) × (largest ≡ largest_of (take i s))
 
 abbrev decreases-loop : tie.decreases-loop
 decreases-loop s sum₀ largest₀ i₀ sum largest i = length s - i
 
 loop-holds : tie.Need-loop-init invariant-loop decreases-loop
-unfolding total largestOf
+unfolding total largest_of
 loop-holds c = (omega arith, refl, refl)
 
 shared-slice-read-b : tie.Need-shared-slice-read-b invariant-loop decreases-loop
@@ -43,18 +43,18 @@ loop-again c =
     let s = l.before.before.args.s.now in
     let i = l.loop.i in
     let h : i < length s = omega arith in
-    let t = total-take s i h in
-    let m = largest-take s i h in
+    let t = total_take s i h in
+    let m = largest_take s i h in
     (omega arith, omega arith, omega (arith, c.larger.ensures))
 
 returns : tie.Need-returns invariant-loop decreases-loop
 returns c =
     let l = c.before in
     let e = take_all l.loop.i l.before.before.args.s.now (omega arith) in
-    (l.loop.invariant.1 ∙ ap (λ (x : List ℕ). total x % 128) e, l.loop.invariant.2 ∙ ap largestOf e)
+    (l.loop.invariant.1 ∙ ap (λ (x : List ℕ). total x % 128) e, l.loop.invariant.2 ∙ ap largest_of e)
 
-pub tally-spec : {M : Type 1} → statement M
-tally-spec =
+pub tally_spec : {M : Type 1} → statement M
+tally_spec =
     tie.close
     (tie.spec
     invariant-loop

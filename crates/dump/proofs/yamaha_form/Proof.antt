@@ -1,6 +1,6 @@
 -- `dump::yamaha_form` meets its contract. Assumes nothing.
 use borrow.Author.Rules.{rules}
-use Rattle.dump.specs.Dump.{yamahaForm}
+use Rattle.dump.specs.Dump.{yamaha_form}
 use Rattle.dump.proofs.yamaha_form.Statement.{statement}
 use Rattle.dump.proofs.yamaha_form.Tie as tie
 
@@ -29,7 +29,7 @@ fixed-requires-6 : tie.Need-fixed-requires-6
 fixed-requires-6 c κs = search rules
 
 returns : tie.Need-returns
-unfolding yamahaForm
+unfolding yamaha_form
 returns c =
     let low = c.before in
     let high = low.before in
@@ -44,8 +44,8 @@ returns c =
       c.fixed6.ensures,
     )
 
-pub yamaha-form-spec : {M : Type 1} → statement M
-yamaha-form-spec =
+pub yamaha_form_spec : {M : Type 1} → statement M
+yamaha_form_spec =
     tie.close
     (tie.spec
     fixed-requires

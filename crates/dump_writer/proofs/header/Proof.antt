@@ -1,8 +1,8 @@
 -- `dump_writer::header` meets its contract. Assumes nothing.
 use lib.ListN.{length-map}
-use Rattle.dump.specs.Dump.{withChannel}
-use Rattle.dump_writer.specs.Written.{headerOf}
-use Rattle.dump_writer.proofs.Whole.{header-bytes}
+use Rattle.dump.specs.Dump.{with_channel}
+use Rattle.dump_writer.specs.Written.{header_of}
+use Rattle.dump_writer.proofs.Whole.{header_bytes}
 use borrow.Author.Rules.{rules}
 use Rattle.dump_writer.proofs.header.Statement.{statement}
 use Rattle.dump_writer.proofs.header.Tie as tie
@@ -23,14 +23,14 @@ array-copy-out-low : tie.Need-array-copy-out-low
 array-copy-out-low c = search rules
 
 returns : tie.Need-returns
-unfolding headerOf withChannel
+unfolding header_of with_channel
 returns c =
     let at-start = c.before.before.before.before.before.before in
-    header-bytes at-start.args.form.header _ at-start.args.channel
+    header_bytes at-start.args.form.header _ at-start.args.channel
     (simp length-map at at-start.well-formed.0.1.1.0.1.0.1)
 
-pub header-spec : {M : Type 1} → statement M
-header-spec =
+pub header_spec : {M : Type 1} → statement M
+header_spec =
     tie.close
     (tie.spec
     array-copy-out-first

@@ -4,9 +4,9 @@ use mathlib.Core.List.{List, [], ◌∷◌}
 use Prim.Native.Nat.{ℕ, ◌+◌}
 use lib.ListN.{length, length-map}
 use lib.Seq.{paste}
-use Rattle.dump.specs.Dump.{checksumOf}
-use Rattle.dump_writer.specs.Written.{headerOf, written_of}
-use Rattle.dump_writer.proofs.Whole.{header-length, three-put}
+use Rattle.dump.specs.Dump.{checksum_of}
+use Rattle.dump_writer.specs.Written.{header_of, written_of}
+use Rattle.dump_writer.proofs.Whole.{header_length, three_put}
 use borrow.Author.Rules.{rules}
 use Rattle.dump_writer.proofs.write.Statement.{statement}
 use Rattle.dump_writer.proofs.write.Tie as tie
@@ -50,14 +50,14 @@ returns c =
     let out = at-start.args.out.now in
     let bytes = at-start.args.«data».now in
     let form = at-start.args.form in
-    three-put out (headerOf form at-start.args.channel) bytes (checksumOf bytes ∷ form.last.from ∷ [])
+    three_put out (header_of form at-start.args.channel) bytes (checksum_of bytes ∷ form.last.from ∷ [])
     form.count _ _ _
     (at-put.put.ensures ∙ ap (λ (b : List ℕ). paste out 0 b (length b)) at-header.header.ensures)
     at-put2.put2.ensures
     (at-put3.put3.ensures
     ∙ ap (λ (k : ℕ). paste at-put2.put2.new.0 (6 + form.count) (k ∷ form.last.from ∷ []) 2)
     at-checksum.checksum.ensures)
-    (header-length form at-start.args.channel (simp length-map at at-start.well-formed.1.0.1.1.0.1.0.1))
+    (header_length form at-start.args.channel (simp length-map at at-start.well-formed.1.0.1.1.0.1.0.1))
     at-start.requires.0 refl at-start.requires.1
 
 pub write_spec : {M : Type 1} → statement M

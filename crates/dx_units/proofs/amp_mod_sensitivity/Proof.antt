@@ -1,22 +1,22 @@
 -- `dx_units::amp_mod_sensitivity` meets its contract. Assumes nothing.
-use Rattle.patch.specs.Layout.{operatorField}
-use Rattle.dx_units.specs.Answers.{ampModSensitivityAnswer}
-use Rattle.dx_units.proofs.Refusals.{field_fits, field-above}
+use Rattle.patch.specs.Layout.{operator_field}
+use Rattle.dx_units.specs.Answers.{amp_mod_sensitivity_answer}
+use Rattle.dx_units.proofs.Refusals.{field_fits_lem, field_above}
 use borrow.Author.Rules.{rules}
 use Rattle.dx_units.proofs.amp_mod_sensitivity.Statement.{statement}
 use Rattle.dx_units.proofs.amp_mod_sensitivity.Tie as tie
 
 returns : tie.Need-returns
-unfolding ampModSensitivityAnswer operatorField
-returns c = field-above c.before.args.sensitivity 3 _ c.if1.true
+unfolding amp_mod_sensitivity_answer operator_field
+returns c = field_above c.before.args.sensitivity 3 _ c.if1.true
 
 amp-mod-sensitivity-requires : tie.Need-amp-mod-sensitivity-requires
 amp-mod-sensitivity-requires c κs = search rules
 
 returns-2 : tie.Need-returns-2
-unfolding ampModSensitivityAnswer operatorField
+unfolding amp_mod_sensitivity_answer operator_field
 returns-2 c =
-    field_fits c.before.before.args.sensitivity 3 c.before.if1.false c.amp-mod-sensitivity.ensures
+    field_fits_lem c.before.before.args.sensitivity 3 c.before.if1.false c.amp-mod-sensitivity.ensures
 
-pub amp-mod-sensitivity-spec : {M : Type 1} → statement M
-amp-mod-sensitivity-spec = tie.close (tie.spec returns amp-mod-sensitivity-requires returns-2)
+pub amp_mod_sensitivity_spec : {M : Type 1} → statement M
+amp_mod_sensitivity_spec = tie.close (tie.spec returns amp-mod-sensitivity-requires returns-2)

@@ -2,21 +2,21 @@
 use borrow.Author.Tests.{not-true, not-false}
 use mathlib.Core.Bool.{true}
 use mathlib.Core.Path.{◌≡◌, sym, ◌∙◌}
-use Rattle.dx_units.specs.Answers.{frequencyFits, frequencyRatioAnswer}
-use Rattle.dx_units.proofs.Refusals.{fits-coarse}
+use Rattle.dx_units.specs.Answers.{frequency_fits, frequency_ratio_answer}
+use Rattle.dx_units.proofs.Refusals.{fits_coarse}
 use borrow.Author.Rules.{rules}
 use Rattle.dx_units.proofs.frequency_ratio.Statement.{statement}
 use Rattle.dx_units.proofs.frequency_ratio.Tie as tie
 
 fit : (c : tie.Else1)
-    → frequencyFits c.before.before.args.mode c.before.before.args.coarse c.before.before.args.fine c.before.before.args.detune ≡ true
+    → frequency_fits c.before.before.args.mode c.before.before.args.coarse c.before.before.args.fine c.before.before.args.detune ≡ true
 fit c = sym c.before.frequency-fits.ensures ∙ not-false _ c.if1.false
 
 frequency-fits-requires : tie.Need-frequency-fits-requires
 frequency-fits-requires c κs = search rules
 
 returns : tie.Need-returns
-unfolding frequencyRatioAnswer
+unfolding frequency_ratio_answer
 returns c = simp (sym c.before.frequency-fits.ensures ∙ not-true _ c.if1.true)
 
 lut-pitch-ratio-high-requires : tie.Need-lut-pitch-ratio-high-requires
@@ -29,10 +29,10 @@ frequency-ratio-requires : tie.Need-frequency-ratio-requires
 frequency-ratio-requires c κs =
     let far = c.before.before.before.before in
     let s = c.before.before.before.before.before.before in
-    fits-coarse s.args.mode s.args.coarse s.args.fine s.args.detune (fit (far))
+    fits_coarse s.args.mode s.args.coarse s.args.fine s.args.detune (fit (far))
 
 returns-2 : tie.Need-returns-2
-unfolding frequencyRatioAnswer
+unfolding frequency_ratio_answer
 returns-2 c =
     let at-lut-pitch-ratio-low = c.before.before.before in
     let r = c.before.before.before.before in
@@ -43,8 +43,8 @@ returns-2 c =
       at-lut-pitch-ratio-low.lut-pitch-ratio-low.ensures,
     )
 
-pub frequency-ratio-spec : {M : Type 1} → statement M
-frequency-ratio-spec =
+pub frequency_ratio_spec : {M : Type 1} → statement M
+frequency_ratio_spec =
     tie.close
     (tie.spec
     frequency-fits-requires

@@ -1,23 +1,23 @@
 -- `dx_units::pitch_envelope_increment` meets its contract. Assumes nothing.
-use Rattle.patch.specs.Layout.{envelopeField}
-use Rattle.dx_units.specs.Answers.{pitchEnvelopeIncrementAnswer}
-use Rattle.dx_units.proofs.Refusals.{field_fits, field-above}
+use Rattle.patch.specs.Layout.{envelope_field}
+use Rattle.dx_units.specs.Answers.{pitch_envelope_increment_answer}
+use Rattle.dx_units.proofs.Refusals.{field_fits_lem, field_above}
 use borrow.Author.Rules.{rules}
 use Rattle.dx_units.proofs.pitch_envelope_increment.Statement.{statement}
 use Rattle.dx_units.proofs.pitch_envelope_increment.Tie as tie
 
 returns : tie.Need-returns
-unfolding pitchEnvelopeIncrementAnswer envelopeField
-returns c = field-above c.before.args.rate 99 _ c.if1.true
+unfolding pitch_envelope_increment_answer envelope_field
+returns c = field_above c.before.args.rate 99 _ c.if1.true
 
 pitch-envelope-increment-requires : tie.Need-pitch-envelope-increment-requires
 pitch-envelope-increment-requires c κs = search rules
 
 returns-2 : tie.Need-returns-2
-unfolding pitchEnvelopeIncrementAnswer envelopeField
+unfolding pitch_envelope_increment_answer envelope_field
 returns-2 c =
-    field_fits c.before.before.args.rate 99 c.before.if1.false c.pitch-envelope-increment.ensures
+    field_fits_lem c.before.before.args.rate 99 c.before.if1.false c.pitch-envelope-increment.ensures
 
-pub pitch-envelope-increment-spec : {M : Type 1} → statement M
-pitch-envelope-increment-spec =
+pub pitch_envelope_increment_spec : {M : Type 1} → statement M
+pitch_envelope_increment_spec =
     tie.close (tie.spec returns pitch-envelope-increment-requires returns-2)

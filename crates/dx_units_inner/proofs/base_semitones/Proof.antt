@@ -6,7 +6,7 @@ use borrow.Author.Tests.{le-leb}
 use lib.Dec.{T}
 use lib.Ieee.{of_bits, in_float}
 use Rattle.numbers.specs.F32.{decimal}
-use Rattle.dx_units_inner.proofs.Conversions.{base-note, base-hertz}
+use Rattle.dx_units_inner.proofs.Conversions.{base_note, base_hertz}
 use borrow.Author.Rules.{rules}
 use Rattle.dx_units_inner.proofs.base_semitones.Statement.{statement}
 use Rattle.dx_units_inner.proofs.base_semitones.Tie as tie
@@ -16,7 +16,7 @@ coarse-semitones-requires c κs = search rules
 
 returns : tie.Need-returns
 returns c =
-    base-note c.before.before.args.mode c.before.before.args.coarse c.before.before.args.fine
+    base_note c.before.before.args.mode c.before.before.args.coarse c.before.before.args.fine
     c.before.if1.true
     c.coarse-semitones.ensures
 
@@ -38,11 +38,11 @@ int-to-float-result c =
 returns-2 : tie.Need-returns-2
 unfolding decimal of_bits
 returns-2 c =
-    base-hertz c.before.before.args.mode c.before.before.args.coarse c.before.before.args.fine
+    base_hertz c.before.before.args.mode c.before.before.args.coarse c.before.before.args.fine
     c.before.if1.false
 
-pub base-semitones-spec : {M : Type 1} → statement M
-base-semitones-spec =
+pub base_semitones_spec : {M : Type 1} → statement M
+base_semitones_spec =
     tie.close
     (tie.spec
     coarse-semitones-requires

@@ -1,5 +1,5 @@
 -- `dx_units_inner::delay_steps` meets its contract. Assumes nothing.
-use Rattle.dx_units_inner.specs.Units.{delaySteps}
+use Rattle.dx_units_inner.specs.Units.{delay_steps}
 use borrow.Author.Rules.{rules}
 use Rattle.dx_units_inner.proofs.delay_steps.Statement.{statement}
 use Rattle.dx_units_inner.proofs.delay_steps.Tie as tie
@@ -17,10 +17,10 @@ wrapping-shl-u32-requires : tie.Need-wrapping-shl-u32-requires
 wrapping-shl-u32-requires c κs = search rules
 
 returns : tie.Need-returns
-unfolding delaySteps
+unfolding delay_steps
 returns c = c.wrapping-shl-u32.ensures
 
-pub delay-steps-spec : {M : Type 1} → statement M
-delay-steps-spec =
+pub delay_steps_spec : {M : Type 1} → statement M
+delay_steps_spec =
     tie.close
     (tie.spec sub-d add-wrapping-shl-u32 add-wrapping-shl-u32-2 wrapping-shl-u32-requires returns)

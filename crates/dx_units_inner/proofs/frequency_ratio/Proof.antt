@@ -1,7 +1,7 @@
 -- `dx_units_inner::frequency_ratio` meets its contract. Assumes nothing.
 use lib.Ieee.{of_bits}
 use Rattle.numbers.specs.F32.{decimal}
-use Rattle.dx_units_inner.proofs.Conversions.{to-note, to-hertz}
+use Rattle.dx_units_inner.proofs.Conversions.{to_note, to_hertz}
 use borrow.Author.Rules.{rules}
 use Rattle.dx_units_inner.proofs.frequency_ratio.Statement.{statement}
 use Rattle.dx_units_inner.proofs.frequency_ratio.Tie as tie
@@ -23,7 +23,7 @@ unfolding decimal of_bits
 returns c =
     let at-base-semitones = c.before.before.before.before in
     let s = c.before.before.before.before.before in
-    to-note s.args.high.now s.args.low.now s.args.mode s.args.coarse s.args.fine
+    to_note s.args.high.now s.args.low.now s.args.mode s.args.coarse s.args.fine
     s.args.detune
     at-base-semitones.base-semitones.ensures c.before.before.semitones-to-ratio-lent.ensures
     c.before.fine-factor.ensures c.if1.true
@@ -33,13 +33,13 @@ unfolding decimal of_bits
 returns-2 c =
     let at-base-semitones = c.before.before.before.before in
     let s = c.before.before.before.before.before in
-    to-hertz s.args.high.now s.args.low.now s.args.mode s.args.coarse s.args.fine
+    to_hertz s.args.high.now s.args.low.now s.args.mode s.args.coarse s.args.fine
     s.args.detune
     at-base-semitones.base-semitones.ensures c.before.before.semitones-to-ratio-lent.ensures
     c.before.fine-factor.ensures c.if1.false
 
-pub frequency-ratio-spec : {M : Type 1} → statement M
-frequency-ratio-spec =
+pub frequency_ratio_spec : {M : Type 1} → statement M
+frequency_ratio_spec =
     tie.close
     (tie.spec
     base-semitones-requires

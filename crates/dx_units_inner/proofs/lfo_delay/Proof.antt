@@ -1,14 +1,14 @@
 -- `dx_units_inner::lfo_delay` meets its contract. Assumes nothing.
 use lib.Ieee.{of_bits}
 use Rattle.numbers.specs.F32.{decimal}
-use Rattle.dx_units_inner.proofs.Conversions.{delay-none, delay-some}
+use Rattle.dx_units_inner.proofs.Conversions.{delay_none, delay_some}
 use borrow.Author.Rules.{rules}
 use Rattle.dx_units_inner.proofs.lfo_delay.Statement.{statement}
 use Rattle.dx_units_inner.proofs.lfo_delay.Tie as tie
 
 returns : tie.Need-returns
 unfolding decimal of_bits
-returns c = delay-none c.before.args.delay c.if1.true
+returns c = delay_none c.before.args.delay c.if1.true
 
 delay-steps-requires : tie.Need-delay-steps-requires
 delay-steps-requires c κs = search rules
@@ -31,12 +31,12 @@ returns-2 c =
     let at-delay-steps = c.before.before.before in
     let at-if1 = at-delay-steps.before in
     let at-start = at-if1.before in
-    delay-some at-start.args.delay at-if1.if1.false
+    delay_some at-start.args.delay at-if1.if1.false
     at-delay-steps.delay-steps.ensures c.before.before.at-least-128.ensures c.before.u32-as-f32.ensures
     c.u32-as-f322.ensures
 
-pub lfo-delay-spec : {M : Type 1} → statement M
-lfo-delay-spec =
+pub lfo_delay_spec : {M : Type 1} → statement M
+lfo_delay_spec =
     tie.close
     (tie.spec
     returns

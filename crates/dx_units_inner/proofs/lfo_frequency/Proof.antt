@@ -16,5 +16,5 @@ returns : tie.Need-returns
 unfolding decimal of_bits
 returns c = frequency c.before.before.args.rate c.before.lfo-steps.ensures c.u32-as-f32.ensures
 
-pub lfo-frequency-spec : {M : Type 1} → statement M
-lfo-frequency-spec = tie.close (tie.spec lfo-steps-requires u32-as-f32-requires returns)
+pub lfo_frequency_spec : {M : Type 1} → statement M
+lfo_frequency_spec = tie.close (tie.spec lfo-steps-requires u32-as-f32-requires returns)

@@ -34,8 +34,8 @@ returns c =
     (back n.result n.type-inv)
     c.i32-as-f32.ensures
 
-pub operator-envelope-increment-spec : {M : Type 1} → statement M
-operator-envelope-increment-spec =
+pub operator_envelope_increment_spec : {M : Type 1} → statement M
+operator_envelope_increment_spec =
     tie.close
     (tie.spec
     mul-rate-scaled

@@ -2,8 +2,8 @@
 use mathlib.Core.Path.{refl}
 use lib.Ieee.{of_bits}
 use Rattle.numbers.specs.F32.{decimal}
-use Rattle.dx_units_inner.specs.Tables.{lutPitchModSensitivity}
-use Rattle.dx_units_inner.specs.Units.{pitchModSensitivity}
+use Rattle.dx_units_inner.specs.Tables.{lut_pitch_mod_sensitivity}
+use Rattle.dx_units_inner.specs.Units.{pitch_mod_sensitivity_of}
 use borrow.Author.Rules.{rules}
 use Rattle.dx_units_inner.proofs.pitch_mod_sensitivity.Statement.{statement}
 use Rattle.dx_units_inner.proofs.pitch_mod_sensitivity.Tie as tie
@@ -15,8 +15,8 @@ array-read-result : tie.Need-array-read-result
 array-read-result c = search rules
 
 returns : tie.Need-returns
-unfolding pitchModSensitivity lutPitchModSensitivity decimal of_bits
+unfolding pitch_mod_sensitivity_of lut_pitch_mod_sensitivity decimal of_bits
 returns c = refl
 
-pub pitch-mod-sensitivity-spec : {M : Type 1} → statement M
-pitch-mod-sensitivity-spec = tie.close (tie.spec mul-result array-read-result returns)
+pub pitch_mod_sensitivity_spec : {M : Type 1} → statement M
+pitch_mod_sensitivity_spec = tie.close (tie.spec mul-result array-read-result returns)

@@ -1,7 +1,7 @@
 -- `dx_units_inner::rate_scaling` meets its contract. Assumes nothing.
 use lib.Ieee.{of_bits}
 use Rattle.numbers.specs.F32.{decimal}
-use Rattle.dx_units_inner.specs.Units.{rateScaling}
+use Rattle.dx_units_inner.specs.Units.{rate_scaling_of}
 use borrow.Author.Rules.{rules}
 use Rattle.dx_units_inner.proofs.rate_scaling.Statement.{statement}
 use Rattle.dx_units_inner.proofs.rate_scaling.Tie as tie
@@ -13,8 +13,8 @@ pow-2-fast-1-requires : tie.Need-pow-2-fast-1-requires
 pow-2-fast-1-requires c κs = search rules
 
 returns : tie.Need-returns
-unfolding rateScaling decimal of_bits
+unfolding rate_scaling_of decimal of_bits
 returns c = c.pow-2-fast-1.ensures
 
-pub rate-scaling-spec : {M : Type 1} → statement M
-rate-scaling-spec = tie.close (tie.spec int-to-float-pow-2-fast-1 pow-2-fast-1-requires returns)
+pub rate_scaling_spec : {M : Type 1} → statement M
+rate_scaling_spec = tie.close (tie.spec int-to-float-pow-2-fast-1 pow-2-fast-1-requires returns)

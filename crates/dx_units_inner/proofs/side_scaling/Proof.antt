@@ -1,7 +1,7 @@
 -- `dx_units_inner::side_scaling` meets its contract. Assumes nothing.
 use lib.Ieee.{of_bits}
 use Rattle.numbers.specs.F32.{decimal}
-use Rattle.dx_units_inner.proofs.Conversions.{side-down, side-up}
+use Rattle.dx_units_inner.proofs.Conversions.{side_down, side_up}
 use borrow.Author.Rules.{rules}
 use Rattle.dx_units_inner.proofs.side_scaling.Statement.{statement}
 use Rattle.dx_units_inner.proofs.side_scaling.Tie as tie
@@ -20,7 +20,7 @@ unfolding decimal of_bits
 returns c =
     let at-f32-abs = c.before.before.before in
     let s = c.before.before.before.before in
-    side-down s.args.x s.args.curve s.args.depth at-f32-abs.f32-abs.ensures
+    side_down s.args.x s.args.curve s.args.depth at-f32-abs.f32-abs.ensures
     c.before.before.bend.ensures
     c.before.if1.true
 
@@ -32,12 +32,12 @@ unfolding decimal of_bits
 returns-2 c =
     let at-f32-abs = c.before.before.before in
     let s = c.before.before.before.before in
-    side-up s.args.x s.args.curve s.args.depth at-f32-abs.f32-abs.ensures
+    side_up s.args.x s.args.curve s.args.depth at-f32-abs.f32-abs.ensures
     c.before.before.bend.ensures
     c.before.if1.false
 
-pub side-scaling-spec : {M : Type 1} → statement M
-side-scaling-spec =
+pub side_scaling_spec : {M : Type 1} → statement M
+side_scaling_spec =
     tie.close
     (tie.spec
     f32-abs-requires

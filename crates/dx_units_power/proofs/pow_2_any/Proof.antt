@@ -2,7 +2,7 @@
 use lib.Ieee.{of_bits}
 use Rattle.numbers.specs.F32.{decimal}
 use Rattle.numbers.proofs.Signed.{back}
-use Rattle.dx_units_power.proofs.Orders.{other-order}
+use Rattle.dx_units_power.proofs.Orders.{other_order}
 use Rattle.std.proofs.Common.{rules}
 use Rattle.dx_units_power.proofs.pow_2_any.Statement.{statement}
 use Rattle.dx_units_power.proofs.pow_2_any.Tie as tie
@@ -37,13 +37,13 @@ returns c =
     let at-whole-below = at-i32-as-f32.before in
     let s = c.before.before.before.before.before.before.before in
     let n = at-whole-below.whole_below in
-    other-order s.args.x s.args.order s.requires n.ensures (back n.result n.type-inv)
+    other_order s.args.x s.args.order s.requires n.ensures (back n.result n.type-inv)
     at-i32-as-f32.i32-as-f32.ensures (back s.args.order s.ranges.order.sfits)
     at-mantissa.mantissa.ensures at-i32-as-u32.i32-as-u32.ensures c.before.before.wrapping-shl-u32.ensures
     c.before.wrapping-add-u32.ensures c.f32-from-bits.ensures
 
-pub pow-2-any-spec : {M : Type 1} → statement M
-pow-2-any-spec =
+pub pow_2_any_spec : {M : Type 1} → statement M
+pow_2_any_spec =
     tie.close
     (tie.spec
     whole-below-requires

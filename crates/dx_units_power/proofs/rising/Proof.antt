@@ -2,26 +2,26 @@
 use Rattle.std.proofs.Common.{arith, rules}
 use lib.Ieee.{of_bits}
 use Rattle.numbers.specs.F32.{decimal}
-use Rattle.dx_units_power.proofs.Reach.{Rising, is-rising, rising-count, rising-above, rising-under, exact}
+use Rattle.dx_units_power.proofs.Reach.{Rising, is_rising, rising_count, rising_above, rising_under, exact}
 use Rattle.dx_units_power.proofs.Reach.{risen}
 use Rattle.dx_units_power.proofs.rising.Statement.{statement}
 use Rattle.dx_units_power.proofs.rising.Tie as tie
 
 there : (c : tie.Start) → Rising c.args.x
 unfolding decimal
-there c = is-rising c.args.x c.requires.0 c.requires.1
+there c = is_rising c.args.x c.requires.0 c.requires.1
 
 truncating-f32-to-u64-requires : tie.Need-truncating-f32-to-u64-requires
-truncating-f32-to-u64-requires c κs = (rising-above c.args.x (there c), rising-under c.args.x (there c))
+truncating-f32-to-u64-requires c κs = (rising_above c.args.x (there c), rising_under c.args.x (there c))
 
 cast-n : tie.Need-overflow-cast-n
-cast-n c = omega (arith, c.truncating-f32-to-u64.ensures, rising-count c.before.args.x (there c.before))
+cast-n c = omega (arith, c.truncating-f32-to-u64.ensures, rising_count c.before.args.x (there c.before))
 
 int-to-float-mantissa : tie.Need-int-to-float-mantissa
 int-to-float-mantissa c =
     let s = c.before.before in
     exact c.before.truncating-f32-to-u64.result
-    (omega (arith, c.before.truncating-f32-to-u64.ensures, rising-count s.args.x (there s)))
+    (omega (arith, c.before.truncating-f32-to-u64.ensures, rising_count s.args.x (there s)))
 
 mantissa-requires : tie.Need-mantissa-requires
 mantissa-requires c κs = search rules
@@ -41,8 +41,8 @@ returns c =
     c.before.before.mantissa.ensures
     c.before.wrapping-add-u32.ensures c.f32-from-bits.ensures
 
-pub rising-spec : {M : Type 1} → statement M
-rising-spec =
+pub rising_spec : {M : Type 1} → statement M
+rising_spec =
     tie.close
     (tie.spec
     truncating-f32-to-u64-requires

@@ -2,7 +2,7 @@
 use lib.Ieee.{of_bits}
 use Rattle.numbers.specs.F32.{decimal}
 use Rattle.numbers.proofs.Signed.{back}
-use Rattle.dx_units_power.proofs.Orders.{below-zero, at-zero-or-above}
+use Rattle.dx_units_power.proofs.Orders.{below_zero, at_zero_or_above}
 use Rattle.std.proofs.Common.{rules}
 use Rattle.dx_units_power.proofs.whole_below.Statement.{statement}
 use Rattle.dx_units_power.proofs.whole_below.Tie as tie
@@ -19,15 +19,15 @@ returns c =
     let at-start = c.before.before.before in
     let n = c.before.before.f32-as-i32 in
     let r = c.wrapping-sub-i32 in
-    below-zero at-start.args.x c.before.if1.true n.ensures (back n.result n.type-inv) r.ensures
+    below_zero at-start.args.x c.before.if1.true n.ensures (back n.result n.type-inv) r.ensures
     (back r.result r.type-inv)
 
 returns-2 : tie.Need-returns-2
 unfolding decimal of_bits
 returns-2 c =
     let n = c.before.f32-as-i32 in
-    at-zero-or-above c.before.before.args.x c.if1.false n.ensures (back n.result n.type-inv)
+    at_zero_or_above c.before.before.args.x c.if1.false n.ensures (back n.result n.type-inv)
 
-pub whole-below-spec : {M : Type 1} → statement M
-whole-below-spec =
+pub whole_below_spec : {M : Type 1} → statement M
+whole_below_spec =
     tie.close (tie.spec f32-as-i32-requires wrapping-sub-i32-requires returns returns-2)

@@ -1,27 +1,27 @@
 -- `envelope::pitch_set` meets its contract. Assumes nothing.
 use mathlib.Core.Path.{sym, ◌∙◌}
 use borrow.Author.Tests.{not-true, not-false, lt-leb, le-leb}
-use Rattle.envelope.specs.Answers.{pitchSetAnswer}
+use Rattle.envelope.specs.Answers.{pitch_set_answer}
 use borrow.Author.Rules.{rules}
 use Rattle.envelope.proofs.pitch_set.Statement.{statement}
 use Rattle.envelope.proofs.pitch_set.Tie as tie
 
 returns : tie.Need-returns
-unfolding pitchSetAnswer
+unfolding pitch_set_answer
 returns c = simp (lt-leb _ _ c.if1.true)
 
 pitch-fits-requires : tie.Need-pitch-fits-requires
 pitch-fits-requires c κs = search rules
 
 returns-2 : tie.Need-returns-2
-unfolding pitchSetAnswer
+unfolding pitch_set_answer
 returns-2 c = simp (le-leb _ _ c.before.before.if1.false, sym c.before.pitch-fits.ensures ∙ not-true c.before.pitch-fits.result c.if2.true)
 
 pitch-set-requires : tie.Need-pitch-set-requires
 pitch-set-requires c κs = search rules
 
 returns-3 : tie.Need-returns-3
-unfolding pitchSetAnswer
+unfolding pitch_set_answer
 returns-3 c =
     let at-if1 = c.before.before.before in
     simp (
@@ -31,6 +31,6 @@ returns-3 c =
       c.pitch-set.ensures,
     )
 
-pub pitch-set-spec : {M : Type 1} → statement M
-pitch-set-spec =
+pub pitch_set_spec : {M : Type 1} → statement M
+pitch_set_spec =
     tie.close (tie.spec returns pitch-fits-requires returns-2 pitch-set-requires returns-3)

@@ -2,8 +2,8 @@
 use mathlib.Core.Path.{sym}
 use borrow.Author.Tests.{lt-ltb, le-ltb}
 use lib.Ieee.{round, of_bits}
-use Rattle.numbers.specs.F32.{minusDecimal}
-use Rattle.envelope_inner.specs.Envelope.{previousLevel}
+use Rattle.numbers.specs.F32.{minus_decimal}
+use Rattle.envelope_inner.specs.Envelope.{previous_level}
 use Rattle.envelope_inner.specs.Scrub.{held}
 use borrow.Author.Rules.{rules}
 use Rattle.envelope_inner.proofs.hold.Statement.{statement}
@@ -19,7 +19,7 @@ value-requires : tie.Need-value-requires
 value-requires c κs = search rules
 
 returns : tie.Need-returns
-unfolding held previousLevel minusDecimal round of_bits
+unfolding held previous_level minus_decimal round of_bits
 returns c = let at-then = c.before.before.before.before in
     simp (sym at-then.before.reach.ensures, lt-ltb _ _ at-then.if1.true) (rw c.before.before.pick.ensures at c.value.ensures)
 
@@ -31,7 +31,7 @@ unfolding held
 returns-2 c = let at-else = c.before.before in
     simp (sym at-else.before.reach.ensures, le-ltb _ _ at-else.if1.false) c.past-stages.ensures
 
-pub hold-spec : {M : Type 1} → statement M
-hold-spec =
+pub hold_spec : {M : Type 1} → statement M
+hold_spec =
     tie.close
     (tie.spec reach-requires pick-requires value-requires returns past-stages-requires returns-2)

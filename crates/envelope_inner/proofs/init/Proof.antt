@@ -10,5 +10,5 @@ returns : tie.Need-returns
 unfolding initialised decimal round of_bits of_int div
 returns c = refl
 
-pub init-spec : {M : Type 1} → statement M
-init-spec = tie.close (tie.spec returns)
+pub init_spec : {M : Type 1} → statement M
+init_spec = tie.close (tie.spec returns)

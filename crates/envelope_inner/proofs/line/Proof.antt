@@ -8,5 +8,5 @@ returns : tie.Need-returns
 unfolding line
 returns c = refl
 
-pub line-spec : {M : Type 1} → statement M
-line-spec = tie.close (tie.spec returns)
+pub line_spec : {M : Type 1} → statement M
+line_spec = tie.close (tie.spec returns)

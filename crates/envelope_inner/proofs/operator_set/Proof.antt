@@ -1,5 +1,5 @@
 -- `envelope_inner::operator_set` meets its contract. Assumes nothing.
-use Rattle.envelope_inner.specs.Set.{operatorSet}
+use Rattle.envelope_inner.specs.Set.{operator_set}
 use borrow.Author.Rules.{rules}
 use Rattle.envelope_inner.proofs.operator_set.Statement.{statement}
 use Rattle.envelope_inner.proofs.operator_set.Tie as tie
@@ -17,11 +17,11 @@ set-requires : tie.Need-set-requires
 set-requires c κs = search rules
 
 returns : tie.Need-returns
-unfolding operatorSet
+unfolding operator_set
 returns c = simp (c.set.ensures, c.before.operator-increments.ensures, c.before.before.operator-levels.ensures)
 
-pub operator-set-spec : {M : Type 1} → statement M
-operator-set-spec =
+pub operator_set_spec : {M : Type 1} → statement M
+operator_set_spec =
     tie.close
     (tie.spec
     operator-levels-requires

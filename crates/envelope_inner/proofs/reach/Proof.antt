@@ -5,7 +5,7 @@ use Prim.Native.Nat.{◌+◌, ◌-◌, ◌≤◌}
 use lib.Ieee.{round, of_bits}
 use Rattle.numbers.specs.F32.{decimal}
 use Rattle.envelope_inner.specs.Scrub.{reached}
-use Rattle.envelope_inner.proofs.Walks.{reached-last, reached-here, reached-on}
+use Rattle.envelope_inner.proofs.Walks.{reached_last, reached_here, reached_on}
 use native.Mathlib.Omega.{arith}
 use Rattle.envelope_inner.proofs.reach.Statement.{statement}
 use Rattle.envelope_inner.proofs.reach.Tie as tie
@@ -33,20 +33,20 @@ unfolding decimal round of_bits
 loop-again c = let at-loop = c.before.before.before.before in
     let stage = at-loop.loop.stage in
     let picked = c.before.pick.ensures in
-    (omega arith, rw picked (sym (reached-on (3 - stage) stage at-loop.before.args.envelope.increment at-loop.loop.left (3 - (stage + 1)) (omega arith) (rw picked at c.if1.false)) ∙ at-loop.loop.invariant.1))
+    (omega arith, rw picked (sym (reached_on (3 - stage) stage at-loop.before.args.envelope.increment at-loop.loop.left (3 - (stage + 1)) (omega arith) (rw picked at c.if1.false)) ∙ at-loop.loop.invariant.1))
 
 returns : tie.Need-returns invariant-loop decreases-loop
 returns c = let at-loop = c.before in
-    sym (reached-last (3 - at-loop.loop.stage) at-loop.loop.stage at-loop.before.args.envelope.increment at-loop.loop.left (omega arith)) ∙ at-loop.loop.invariant.1
+    sym (reached_last (3 - at-loop.loop.stage) at-loop.loop.stage at-loop.before.args.envelope.increment at-loop.loop.left (omega arith)) ∙ at-loop.loop.invariant.1
 
 returns-2 : tie.Need-returns-2 invariant-loop decreases-loop
 unfolding decimal round of_bits
 returns-2 c = let at-loop = c.before.before.before.before in
     let stage = at-loop.loop.stage in
-    sym (reached-here (3 - stage) stage at-loop.before.args.envelope.increment at-loop.loop.left (3 - (stage + 1)) (omega arith) (rw c.before.pick.ensures at c.if1.true)) ∙ at-loop.loop.invariant.1
+    sym (reached_here (3 - stage) stage at-loop.before.args.envelope.increment at-loop.loop.left (3 - (stage + 1)) (omega arith) (rw c.before.pick.ensures at c.if1.true)) ∙ at-loop.loop.invariant.1
 
-pub reach-spec : {M : Type 1} → statement M
-reach-spec =
+pub reach_spec : {M : Type 1} → statement M
+reach_spec =
     tie.close
     (tie.spec
     invariant-loop

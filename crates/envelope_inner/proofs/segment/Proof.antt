@@ -48,8 +48,8 @@ returns-3 c =
     let at-start = c.before.before.before in
     simp (not-false at-start.args.reshape c.before.before.if1.false, c.before.if2.false) c.line3.ensures
 
-pub segment-spec : {M : Type 1} → statement M
-segment-spec =
+pub segment_spec : {M : Type 1} → statement M
+segment_spec =
     tie.close
     (tie.spec
     line-requires

@@ -23,7 +23,7 @@ returns c =
     let at-pick = c.before.before.before in
     simp (c.segment.ensures, c.before.pick2.ensures, c.before.before.start_of_lem.ensures, at-pick.pick.ensures)
 
-pub value-at-spec : {M : Type 1} → statement M
-value-at-spec =
+pub value_at_spec : {M : Type 1} → statement M
+value_at_spec =
     tie.close
     (tie.spec add-pick pick-requires start-of-requires pick-requires-2 segment-requires returns)

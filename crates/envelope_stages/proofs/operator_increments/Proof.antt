@@ -1,5 +1,5 @@
 -- `envelope_stages::operator_increments` meets its contract. Assumes nothing.
-use Rattle.envelope_stages.specs.Stages.{operatorIncrements}
+use Rattle.envelope_stages.specs.Stages.{operator_increments}
 use borrow.Author.Rules.{rules}
 use Rattle.envelope_stages.proofs.operator_increments.Statement.{statement}
 use Rattle.envelope_stages.proofs.operator_increments.Tie as tie
@@ -53,13 +53,13 @@ operator-stage-increment-requires-4 : tie.Need-operator-stage-increment-requires
 operator-stage-increment-requires-4 c κs = search rules
 
 returns : tie.Need-returns
-unfolding operatorIncrements
+unfolding operator_increments
 returns c =
     let at-operator-stage-increment = c.before.before.before in
     simp (at-operator-stage-increment.operator-stage-increment.ensures, c.before.before.operator-stage-increment2.ensures, c.before.operator-stage-increment3.ensures, c.operator-stage-increment4.ensures)
 
-pub operator-increments-spec : {M : Type 1} → statement M
-operator-increments-spec =
+pub operator_increments_spec : {M : Type 1} → statement M
+operator_increments_spec =
     tie.close
     (tie.spec
     array-read-operator-stage-increment

@@ -1,5 +1,5 @@
 -- `envelope_stages::operator_levels` meets its contract. Assumes nothing.
-use Rattle.envelope_stages.specs.Stages.{operatorLevels}
+use Rattle.envelope_stages.specs.Stages.{operator_levels}
 use borrow.Author.Rules.{rules}
 use Rattle.envelope_stages.proofs.operator_levels.Statement.{statement}
 use Rattle.envelope_stages.proofs.operator_levels.Tie as tie
@@ -29,13 +29,13 @@ operator-stage-level-requires-4 : tie.Need-operator-stage-level-requires-4
 operator-stage-level-requires-4 c κs = search rules
 
 returns : tie.Need-returns
-unfolding operatorLevels
+unfolding operator_levels
 returns c =
     let at-operator-stage-level = c.before.before.before in
     simp (at-operator-stage-level.operator-stage-level.ensures, c.before.before.operator-stage-level2.ensures, c.before.operator-stage-level3.ensures, c.operator-stage-level4.ensures)
 
-pub operator-levels-spec : {M : Type 1} → statement M
-operator-levels-spec =
+pub operator_levels_spec : {M : Type 1} → statement M
+operator_levels_spec =
     tie.close
     (tie.spec
     array-read-operator-stage-level

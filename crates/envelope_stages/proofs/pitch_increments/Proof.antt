@@ -1,5 +1,5 @@
 -- `envelope_stages::pitch_increments` meets its contract. Assumes nothing.
-use Rattle.envelope_stages.specs.Stages.{pitchIncrements}
+use Rattle.envelope_stages.specs.Stages.{pitch_increments}
 use borrow.Author.Rules.{rules}
 use Rattle.envelope_stages.proofs.pitch_increments.Statement.{statement}
 use Rattle.envelope_stages.proofs.pitch_increments.Tie as tie
@@ -53,13 +53,13 @@ pitch-stage-increment-requires-4 : tie.Need-pitch-stage-increment-requires-4
 pitch-stage-increment-requires-4 c κs = search rules
 
 returns : tie.Need-returns
-unfolding pitchIncrements
+unfolding pitch_increments
 returns c =
     let at-pitch-stage-increment = c.before.before.before in
     simp (at-pitch-stage-increment.pitch-stage-increment.ensures, c.before.before.pitch-stage-increment2.ensures, c.before.pitch-stage-increment3.ensures, c.pitch-stage-increment4.ensures)
 
-pub pitch-increments-spec : {M : Type 1} → statement M
-pitch-increments-spec =
+pub pitch_increments_spec : {M : Type 1} → statement M
+pitch_increments_spec =
     tie.close
     (tie.spec
     array-read-pitch-stage-increment

@@ -1,5 +1,5 @@
 -- `envelope_stages::pitch_levels` meets its contract. Assumes nothing.
-use Rattle.envelope_stages.specs.Stages.{pitchLevels}
+use Rattle.envelope_stages.specs.Stages.{pitch_levels}
 use borrow.Author.Rules.{rules}
 use Rattle.envelope_stages.proofs.pitch_levels.Statement.{statement}
 use Rattle.envelope_stages.proofs.pitch_levels.Tie as tie
@@ -29,13 +29,13 @@ pitch-envelope-level-requires-4 : tie.Need-pitch-envelope-level-requires-4
 pitch-envelope-level-requires-4 c κs = search rules
 
 returns : tie.Need-returns
-unfolding pitchLevels
+unfolding pitch_levels
 returns c =
     let at-pitch-envelope-level = c.before.before.before in
     simp (at-pitch-envelope-level.pitch-envelope-level.ensures, c.before.before.pitch-envelope-level2.ensures, c.before.pitch-envelope-level3.ensures, c.pitch-envelope-level4.ensures)
 
-pub pitch-levels-spec : {M : Type 1} → statement M
-pitch-levels-spec =
+pub pitch_levels_spec : {M : Type 1} → statement M
+pitch_levels_spec =
     tie.close
     (tie.spec
     array-read-pitch-envelope-level

@@ -1,7 +1,7 @@
 -- `envelope_stages::pitch_stage_increment` meets its contract. Assumes nothing.
 use lib.Ieee.{round, of_bits}
 use Rattle.numbers.specs.F32.{decimal}
-use Rattle.envelope_stages.specs.Stages.{pitchStageIncrement}
+use Rattle.envelope_stages.specs.Stages.{pitch_stage_increment}
 use mathlib.Core.Path.{sym}
 use borrow.Author.Rules.{rules}
 use Rattle.envelope_stages.proofs.pitch_stage_increment.Statement.{statement}
@@ -14,18 +14,18 @@ f32-abs-requires : tie.Need-f32-abs-requires
 f32-abs-requires c κs = search rules
 
 returns : tie.Need-returns
-unfolding pitchStageIncrement decimal round of_bits
+unfolding pitch_stage_increment decimal round of_bits
 returns c = simp (sym c.before.before.pitch-envelope-increment.ensures, c.before.if1.true, c.f32-abs.ensures)
 
 returns-2 : tie.Need-returns-2
-unfolding pitchStageIncrement decimal round of_bits
+unfolding pitch_stage_increment decimal round of_bits
 returns-2 c = simp (sym c.before.before.pitch-envelope-increment.ensures, c.before.if1.false, c.if2.true)
 
 returns-3 : tie.Need-returns-3
-unfolding pitchStageIncrement decimal round of_bits
+unfolding pitch_stage_increment decimal round of_bits
 returns-3 c = simp (sym c.before.before.pitch-envelope-increment.ensures, c.before.if1.false, c.if2.false)
 
-pub pitch-stage-increment-spec : {M : Type 1} → statement M
-pitch-stage-increment-spec =
+pub pitch_stage_increment_spec : {M : Type 1} → statement M
+pitch_stage_increment_spec =
     tie.close
     (tie.spec pitch-envelope-increment-requires f32-abs-requires returns returns-2 returns-3)

@@ -30,8 +30,8 @@ loop-again c = tt
 returns-2 : tie.Need-returns-2 invariant-loop decreases-loop
 returns-2 c = tt
 
-pub each-file-spec : {M : Type 1} → statement M
-each-file-spec =
+pub each_file_spec : {M : Type 1} → statement M
+each_file_spec =
     tie.close
     (tie.spec
     invariant-loop

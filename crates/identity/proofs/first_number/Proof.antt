@@ -9,5 +9,5 @@ returns c = simp (eq-eqb _ 0 c.if1.true)
 returns-2 : tie.Need-returns-2
 returns-2 c = simp (ne_eqb _ 0 c.if1.false)
 
-pub first-number-spec : {M : Type 1} → statement M
-first-number-spec = tie.close (tie.spec returns returns-2)
+pub first_number_spec : {M : Type 1} → statement M
+first_number_spec = tie.close (tie.spec returns returns-2)

@@ -1,5 +1,5 @@
 -- `identity::identify` meets its contract. Assumes nothing.
-use Rattle.identity.proofs.Steps.{not-identified, identified}
+use Rattle.identity.proofs.Steps.{not_identified, identified}
 use Rattle.std.proofs.Common.{rules}
 use Rattle.identity.proofs.identify.Statement.{statement}
 use Rattle.identity.proofs.identify.Tie as tie
@@ -8,7 +8,7 @@ prepare-requires : tie.Need-prepare-requires
 prepare-requires c κs = search rules
 
 returns : tie.Need-returns
-returns c = not-identified _ _ c.before.before.prepare.ensures c.if1.true
+returns c = not_identified _ _ c.before.before.prepare.ensures c.if1.true
 
 lut-sine-requires : tie.Need-lut-sine-requires
 lut-sine-requires c κs = search rules
@@ -37,8 +37,8 @@ returns-2 c =
     at-sine-pairs.sine-pairs.ensures at-lut-pitch-ratio-high.lut-pitch-ratio-high.ensures
     at-lut-pitch-ratio-low.lut-pitch-ratio-low.ensures c.play-notes.ensures
 
-pub identify-spec : {M : Type 1} → statement M
-identify-spec =
+pub identify_spec : {M : Type 1} → statement M
+identify_spec =
     tie.close
     (tie.spec
     prepare-requires

@@ -1,7 +1,7 @@
 -- `identity::play_block` meets its contract. Assumes nothing.
 use lib.Ieee.{of_bits}
 use Rattle.numbers.specs.F32.{decimal}
-use Rattle.identity.proofs.Steps.{block-played-of}
+use Rattle.identity.proofs.Steps.{block_played_of}
 use Rattle.std.proofs.Common.{rules}
 use Rattle.identity.proofs.play_block.Statement.{statement}
 use Rattle.identity.proofs.play_block.Tie as tie
@@ -35,12 +35,12 @@ returns c =
     let at-amp-mod = at-parameters.before in
     let at-pitch-mod = at-amp-mod.before in
     let at-step-with = at-pitch-mod.before.before in
-    block-played-of _ _ _ _ _ _ _ at-step-with.step-with.ensures at-pitch-mod.pitch-mod.ensures
+    block_played_of _ _ _ _ _ _ _ at-step-with.step-with.ensures at-pitch-mod.pitch-mod.ensures
     at-amp-mod.amp-mod.ensures at-parameters.parameters.ensures at-render-with.render-with.ensures
     c.before.hash-output.ensures
 
-pub play-block-spec : {M : Type 1} → statement M
-play-block-spec =
+pub play_block_spec : {M : Type 1} → statement M
+play_block_spec =
     tie.close
     (tie.spec
     step-with-requires

@@ -1,7 +1,7 @@
 -- `identity::prepare` meets its contract. Assumes nothing.
 use lib.Ieee.{of_bits}
 use Rattle.numbers.specs.F32.{decimal}
-use Rattle.identity.proofs.Steps.{readied-of}
+use Rattle.identity.proofs.Steps.{readied_of}
 use Rattle.std.proofs.Common.{rules}
 use Rattle.identity.proofs.prepare.Statement.{statement}
 use Rattle.identity.proofs.prepare.Tie as tie
@@ -39,11 +39,11 @@ returns c =
     let at-set-patch = at-init2.before in
     let at-init = at-set-patch.before.before.before in
     let at-opcodes-6-32 = at-init.before in
-    readied-of _ at-opcodes-6-32.opcodes-6-32.ensures at-init.init.ensures at-set-patch.set-patch.ensures
+    readied_of _ at-opcodes-6-32.opcodes-6-32.ensures at-init.init.ensures at-set-patch.set-patch.ensures
     at-init2.init2.ensures at_set.set.ensures at-reset.reset.ensures c.first-number.ensures
 
-pub prepare-spec : {M : Type 1} → statement M
-prepare-spec =
+pub prepare_spec : {M : Type 1} → statement M
+prepare_spec =
     tie.close
     (tie.spec
     opcodes-6-32-requires

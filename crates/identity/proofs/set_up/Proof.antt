@@ -1,7 +1,7 @@
 -- `identity::set_up` meets its contract. Assumes nothing.
 use lib.Ieee.{of_bits}
 use Rattle.numbers.specs.F32.{decimal}
-use Rattle.identity.proofs.Steps.{set-up-of}
+use Rattle.identity.proofs.Steps.{set_up_of}
 use Rattle.std.proofs.Common.{rules}
 use Rattle.identity.proofs.set_up.Statement.{statement}
 use Rattle.identity.proofs.set_up.Tie as tie
@@ -19,9 +19,9 @@ returns : tie.Need-returns
 unfolding decimal of_bits
 returns c =
     let at-parameters = c.before.before.before.before in
-    set-up-of _ _ _ _ _ at-parameters.parameters.ensures c.before.before.render-with.ensures
+    set_up_of _ _ _ _ _ at-parameters.parameters.ensures c.before.before.render-with.ensures
 
-pub set-up-spec : {M : Type 1} → statement M
-set-up-spec =
+pub set_up_spec : {M : Type 1} → statement M
+set_up_spec =
     tie.close
     (tie.spec parameters-requires slice-aggregate-render-with render-with-requires returns)

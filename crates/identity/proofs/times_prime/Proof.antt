@@ -1,5 +1,5 @@
 -- `identity::times_prime` meets its contract. Assumes nothing.
-use Rattle.identity.proofs.Steps.{times-prime-of}
+use Rattle.identity.proofs.Steps.{times_prime_of}
 use Rattle.std.proofs.Common.{rules}
 use Rattle.identity.proofs.times_prime.Statement.{statement}
 use Rattle.identity.proofs.times_prime.Tie as tie
@@ -23,10 +23,10 @@ wrapping-add-u64-requires-2 : tie.Need-wrapping-add-u64-requires-2
 wrapping-add-u64-requires-2 c κs = search rules
 
 returns : tie.Need-returns
-returns c = times-prime-of _ c.before.wrapping-add-u64.ensures c.wrapping-add-u642.ensures
+returns c = times_prime_of _ c.before.wrapping-add-u64.ensures c.wrapping-add-u642.ensures
 
-pub times-prime-spec : {M : Type 1} → statement M
-times-prime-spec =
+pub times_prime_spec : {M : Type 1} → statement M
+times_prime_spec =
     tie.close
     (tie.spec
     mul_low

@@ -43,8 +43,8 @@ same_length c = omega arith
 returns : tie.Need-returns invariant-loop decreases-loop
 returns c = tt
 
-pub put-plan-spec : {M : Type 1} → statement M
-put-plan-spec =
+pub put_plan_spec : {M : Type 1} → statement M
+put_plan_spec =
     tie.close
     (tie.spec
     invariant-loop

@@ -33,8 +33,8 @@ loop-again c = omega arith
 returns : tie.Need-returns invariant-loop decreases-loop
 returns c = tt
 
-pub digest-bytes-spec : {M : Type 1} → statement M
-digest-bytes-spec =
+pub digest_bytes_spec : {M : Type 1} → statement M
+digest_bytes_spec =
     tie.close
     (tie.spec
     invariant-loop

@@ -36,8 +36,8 @@ loop-again c = omega arith
 returns : tie.Need-returns invariant-loop decreases-loop
 returns c = tt
 
-pub digest-floats-spec : {M : Type 1} → statement M
-digest-floats-spec =
+pub digest_floats_spec : {M : Type 1} → statement M
+digest_floats_spec =
     tie.close
     (tie.spec
     invariant-loop

@@ -39,8 +39,8 @@ same_length c = omega arith
 returns : tie.Need-returns invariant-loop decreases-loop
 returns c = tt
 
-pub fill-given-spec : {M : Type 1} → statement M
-fill-given-spec =
+pub fill_given_spec : {M : Type 1} → statement M
+fill_given_spec =
     tie.close
     (tie.spec
     invariant-loop

@@ -39,8 +39,8 @@ same_length c = omega arith
 returns : tie.Need-returns invariant-loop decreases-loop
 returns c = tt
 
-pub fill-seeded-spec : {M : Type 1} → statement M
-fill-seeded-spec =
+pub fill_seeded_spec : {M : Type 1} → statement M
+fill_seeded_spec =
     tie.close
     (tie.spec
     invariant-loop

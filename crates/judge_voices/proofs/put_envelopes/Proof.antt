@@ -36,8 +36,8 @@ same_length c = omega arith
 returns : tie.Need-returns invariant-loop decreases-loop
 returns c = tt
 
-pub put-envelopes-spec : {M : Type 1} → statement M
-put-envelopes-spec =
+pub put_envelopes_spec : {M : Type 1} → statement M
+put_envelopes_spec =
     tie.close
     (tie.spec
     invariant-loop

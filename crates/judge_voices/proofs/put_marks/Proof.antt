@@ -33,8 +33,8 @@ same_length c = omega arith
 returns : tie.Need-returns invariant-loop decreases-loop
 returns c = tt
 
-pub put-marks-spec : {M : Type 1} → statement M
-put-marks-spec =
+pub put_marks_spec : {M : Type 1} → statement M
+put_marks_spec =
     tie.close
     (tie.spec
     invariant-loop

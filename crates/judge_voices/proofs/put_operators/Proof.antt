@@ -36,8 +36,8 @@ same_length c = omega arith
 returns : tie.Need-returns invariant-loop decreases-loop
 returns c = tt
 
-pub put-operators-spec : {M : Type 1} → statement M
-put-operators-spec =
+pub put_operators_spec : {M : Type 1} → statement M
+put_operators_spec =
     tie.close
     (tie.spec
     invariant-loop

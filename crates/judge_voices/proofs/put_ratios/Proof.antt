@@ -36,8 +36,8 @@ same_length c = omega arith
 returns : tie.Need-returns invariant-loop decreases-loop
 returns c = tt
 
-pub put-ratios-spec : {M : Type 1} → statement M
-put-ratios-spec =
+pub put_ratios_spec : {M : Type 1} → statement M
+put_ratios_spec =
     tie.close
     (tie.spec
     invariant-loop

@@ -40,8 +40,8 @@ same_length c = omega arith
 returns : tie.Need-returns invariant-loop decreases-loop
 returns c = tt
 
-pub put-floats-spec : {M : Type 1} → statement M
-put-floats-spec =
+pub put_floats_spec : {M : Type 1} → statement M
+put_floats_spec =
     tie.close
     (tie.spec
     invariant-loop

@@ -33,8 +33,8 @@ returns : tie.Need-returns
 unfolding number_at
 returns c = search rules
 
-pub read-number-spec : {M : Type 1} → statement M
-read-number-spec =
+pub read_number_spec : {M : Type 1} → statement M
+read_number_spec =
     tie.close
     (tie.spec
     shared-slice-read-result

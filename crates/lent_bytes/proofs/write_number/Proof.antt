@@ -3,7 +3,7 @@ use native.Mathlib.Numerals.{add-one}
 use native.Mathlib.Omega.{arith}
 use borrow.Author.Rules.{rules}
 use lib.ListN.{length-set}
-use Rattle.lent_bytes.specs.TwoBytes.{twoBytes, with_number}
+use Rattle.lent_bytes.specs.TwoBytes.{two_bytes, with_number}
 use Rattle.lent_bytes.proofs.write_number.Statement.{statement}
 use Rattle.lent_bytes.proofs.write_number.Tie as tie
 
@@ -26,9 +26,9 @@ same_length : tie.Need-same-length
 same_length c = search rules
 
 returns : tie.Need-returns
-unfolding with_number twoBytes
+unfolding with_number two_bytes
 returns c = rw add-one
 
-pub write-number-spec : {M : Type 1} → statement M
-write-number-spec =
+pub write_number_spec : {M : Type 1} → statement M
+write_number_spec =
     tie.close (tie.spec cast-s slice-write-s cast-s-2 add-s slice-write-s-2 same_length returns)

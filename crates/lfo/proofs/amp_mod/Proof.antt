@@ -1,5 +1,5 @@
 -- `lfo::amp_mod` meets its contract. Assumes nothing.
-use Rattle.lfo.specs.Answers.{ampModAnswer}
+use Rattle.lfo.specs.Answers.{amp_mod_answer}
 use borrow.Author.Rules.{rules}
 use Rattle.lfo.proofs.amp_mod.Statement.{statement}
 use Rattle.lfo.proofs.amp_mod.Tie as tie
@@ -11,8 +11,8 @@ reading-requires : tie.Need-reading-requires
 reading-requires c κs = search rules
 
 returns : tie.Need-returns
-unfolding ampModAnswer
+unfolding amp_mod_answer
 returns c = simp (c.reading.ensures, c.before.amp-mod.ensures)
 
-pub amp-mod-spec : {M : Type 1} → statement M
-amp-mod-spec = tie.close (tie.spec amp-mod-requires reading-requires returns)
+pub amp_mod_spec : {M : Type 1} → statement M
+amp_mod_spec = tie.close (tie.spec amp-mod-requires reading-requires returns)

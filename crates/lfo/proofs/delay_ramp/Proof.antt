@@ -1,5 +1,5 @@
 -- `lfo::delay_ramp` meets its contract. Assumes nothing.
-use Rattle.lfo.specs.Answers.{delayRampAnswer}
+use Rattle.lfo.specs.Answers.{delay_ramp_answer}
 use borrow.Author.Rules.{rules}
 use Rattle.lfo.proofs.delay_ramp.Statement.{statement}
 use Rattle.lfo.proofs.delay_ramp.Tie as tie
@@ -11,8 +11,8 @@ reading-requires : tie.Need-reading-requires
 reading-requires c κs = search rules
 
 returns : tie.Need-returns
-unfolding delayRampAnswer
+unfolding delay_ramp_answer
 returns c = simp (c.reading.ensures, c.before.delay-ramp.ensures)
 
-pub delay-ramp-spec : {M : Type 1} → statement M
-delay-ramp-spec = tie.close (tie.spec delay-ramp-requires reading-requires returns)
+pub delay_ramp_spec : {M : Type 1} → statement M
+delay_ramp_spec = tie.close (tie.spec delay-ramp-requires reading-requires returns)

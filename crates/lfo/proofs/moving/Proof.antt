@@ -1,6 +1,6 @@
 -- `lfo::moving` meets its contract. Assumes nothing.
 use borrow.Author.Tests.{not-true, not-false}
-use Rattle.lfo.specs.Answers.{moveAnswer}
+use Rattle.lfo.specs.Answers.{move_answer}
 use Rattle.lfo.proofs.Tests.{refused, accepted}
 use borrow.Author.Rules.{rules}
 use Rattle.lfo.proofs.moving.Statement.{statement}
@@ -10,11 +10,11 @@ state-fits-requires : tie.Need-state-fits-requires
 state-fits-requires c κs = search rules
 
 returns : tie.Need-returns
-unfolding moveAnswer
+unfolding move_answer
 returns c = simp (refused c.before.state-fits.ensures c.if1.true)
 
 returns-2 : tie.Need-returns-2
-unfolding moveAnswer
+unfolding move_answer
 returns-2 c =
     let test = c.before.before in
     simp (
@@ -23,7 +23,7 @@ returns-2 c =
     )
 
 returns-3 : tie.Need-returns-3
-unfolding moveAnswer
+unfolding move_answer
 returns-3 c =
     let test = c.before.before.before in
     simp (
@@ -31,5 +31,5 @@ returns-3 c =
       not-false test.before.args.fits c.before.if2.false,
     )
 
-pub moving-spec : {M : Type 1} → statement M
-moving-spec = tie.close (tie.spec state-fits-requires returns returns-2 returns-3)
+pub moving_spec : {M : Type 1} → statement M
+moving_spec = tie.close (tie.spec state-fits-requires returns returns-2 returns-3)

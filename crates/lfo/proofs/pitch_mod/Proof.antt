@@ -1,5 +1,5 @@
 -- `lfo::pitch_mod` meets its contract. Assumes nothing.
-use Rattle.lfo.specs.Answers.{pitchModAnswer}
+use Rattle.lfo.specs.Answers.{pitch_mod_answer}
 use borrow.Author.Rules.{rules}
 use Rattle.lfo.proofs.pitch_mod.Statement.{statement}
 use Rattle.lfo.proofs.pitch_mod.Tie as tie
@@ -11,8 +11,8 @@ reading-requires : tie.Need-reading-requires
 reading-requires c κs = search rules
 
 returns : tie.Need-returns
-unfolding pitchModAnswer
+unfolding pitch_mod_answer
 returns c = simp (c.reading.ensures, c.before.pitch-mod.ensures)
 
-pub pitch-mod-spec : {M : Type 1} → statement M
-pitch-mod-spec = tie.close (tie.spec pitch-mod-requires reading-requires returns)
+pub pitch_mod_spec : {M : Type 1} → statement M
+pitch_mod_spec = tie.close (tie.spec pitch-mod-requires reading-requires returns)

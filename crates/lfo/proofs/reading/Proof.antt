@@ -1,5 +1,5 @@
 -- `lfo::reading` meets its contract. Assumes nothing.
-use Rattle.lfo.specs.Answers.{readAnswer}
+use Rattle.lfo.specs.Answers.{read_answer}
 use Rattle.numbers.specs.F32.{decimal}
 use lib.Ieee.{of_bits}
 use mathlib.Core.Path.{◌∙◌, sym}
@@ -11,12 +11,12 @@ state-fits-requires : tie.Need-state-fits-requires
 state-fits-requires c κs = search rules
 
 returns : tie.Need-returns
-unfolding readAnswer decimal of_bits
+unfolding read_answer decimal of_bits
 returns c = simp (sym c.before.state-fits.ensures ∙ c.if1.true)
 
 returns-2 : tie.Need-returns-2
-unfolding readAnswer decimal of_bits
+unfolding read_answer decimal of_bits
 returns-2 c = simp (sym c.before.state-fits.ensures ∙ c.if1.false)
 
-pub reading-spec : {M : Type 1} → statement M
-reading-spec = tie.close (tie.spec state-fits-requires returns returns-2)
+pub reading_spec : {M : Type 1} → statement M
+reading_spec = tie.close (tie.spec state-fits-requires returns returns-2)

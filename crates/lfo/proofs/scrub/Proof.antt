@@ -1,5 +1,5 @@
 -- `lfo::scrub` meets its contract. Assumes nothing.
-use Rattle.lfo.specs.Answers.{scrubAnswer}
+use Rattle.lfo.specs.Answers.{scrub_answer}
 use borrow.Author.Rules.{rules}
 use Rattle.lfo.proofs.scrub.Statement.{statement}
 use Rattle.lfo.proofs.scrub.Tie as tie
@@ -14,8 +14,8 @@ moving-requires : tie.Need-moving-requires
 moving-requires c κs = search rules
 
 returns : tie.Need-returns
-unfolding scrubAnswer
+unfolding scrub_answer
 returns c = simp (c.moving.ensures, c.before.scrub.ensures, c.before.before.scrub-fits.ensures)
 
-pub scrub-spec : {M : Type 1} → statement M
-scrub-spec = tie.close (tie.spec scrub-fits-requires scrub-requires moving-requires returns)
+pub scrub_spec : {M : Type 1} → statement M
+scrub_spec = tie.close (tie.spec scrub-fits-requires scrub-requires moving-requires returns)

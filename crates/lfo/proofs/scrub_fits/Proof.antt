@@ -1,5 +1,5 @@
 -- `lfo::scrub_fits` meets its contract. Assumes nothing.
-use Rattle.lfo.specs.Answers.{scrubFits}
+use Rattle.lfo.specs.Answers.{scrub_fits}
 use Rattle.numbers.specs.F32.{decimal}
 use lib.Ieee.{of_bits}
 use borrow.Author.Rules.{rules}
@@ -10,8 +10,8 @@ from-zero-requires : tie.Need-from-zero-requires
 from-zero-requires c κs = search rules
 
 returns : tie.Need-returns
-unfolding scrubFits decimal of_bits
+unfolding scrub_fits decimal of_bits
 returns c = simp c.before.from_zero.ensures
 
-pub scrub-fits-spec : {M : Type 1} → statement M
-scrub-fits-spec = tie.close (tie.spec from-zero-requires returns)
+pub scrub_fits_spec : {M : Type 1} → statement M
+scrub_fits_spec = tie.close (tie.spec from-zero-requires returns)

@@ -1,5 +1,5 @@
 -- `lfo::scrub_with` meets its contract. Assumes nothing.
-use Rattle.lfo.specs.Answers.{scrubAnswer}
+use Rattle.lfo.specs.Answers.{scrub_answer}
 use borrow.Author.Rules.{rules}
 use Rattle.lfo.proofs.scrub_with.Statement.{statement}
 use Rattle.lfo.proofs.scrub_with.Tie as tie
@@ -14,8 +14,8 @@ moving-requires : tie.Need-moving-requires
 moving-requires c κs = search rules
 
 returns : tie.Need-returns
-unfolding scrubAnswer
+unfolding scrub_answer
 returns c = simp (c.moving.ensures, c.before.scrub-with.ensures, c.before.before.scrub-fits.ensures)
 
-pub scrub-with-spec : {M : Type 1} → statement M
-scrub-with-spec = tie.close (tie.spec scrub-fits-requires scrub-with-requires moving-requires returns)
+pub scrub_with_spec : {M : Type 1} → statement M
+scrub_with_spec = tie.close (tie.spec scrub-fits-requires scrub-with-requires moving-requires returns)

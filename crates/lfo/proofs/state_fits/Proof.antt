@@ -1,5 +1,5 @@
 -- `lfo::state_fits` meets its contract. Assumes nothing.
-use Rattle.lfo.specs.Answers.{stateFits}
+use Rattle.lfo.specs.Answers.{state_fits}
 use Rattle.numbers.specs.F32.{decimal}
 use lib.Ieee.{of_bits}
 use borrow.Author.Rules.{rules}
@@ -10,8 +10,8 @@ from-zero-requires : tie.Need-from-zero-requires
 from-zero-requires c κs = search rules
 
 returns : tie.Need-returns
-unfolding stateFits decimal of_bits
+unfolding state_fits decimal of_bits
 returns c = simp c.from_zero.ensures
 
-pub state-fits-spec : {M : Type 1} → statement M
-state-fits-spec = tie.close (tie.spec from-zero-requires returns)
+pub state_fits_spec : {M : Type 1} → statement M
+state_fits_spec = tie.close (tie.spec from-zero-requires returns)

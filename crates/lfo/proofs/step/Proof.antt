@@ -1,5 +1,5 @@
 -- `lfo::step` meets its contract. Assumes nothing.
-use Rattle.lfo.specs.Answers.{stepAnswer}
+use Rattle.lfo.specs.Answers.{step_answer}
 use borrow.Author.Rules.{rules}
 use Rattle.lfo.proofs.step.Statement.{statement}
 use Rattle.lfo.proofs.step.Tie as tie
@@ -14,7 +14,7 @@ moving-requires : tie.Need-moving-requires
 moving-requires c κs = search rules
 
 returns : tie.Need-returns
-unfolding stepAnswer
+unfolding step_answer
 returns c = simp (c.moving.ensures, c.before.step.ensures, c.before.before.step-fits.ensures)
 
 pub step_spec : {M : Type 1} → statement M

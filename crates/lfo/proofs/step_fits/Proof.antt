@@ -1,5 +1,5 @@
 -- `lfo::step_fits` meets its contract. Assumes nothing.
-use Rattle.lfo.specs.Answers.{stepFits}
+use Rattle.lfo.specs.Answers.{step_fits}
 use Rattle.numbers.specs.F32.{decimal}
 use lib.Ieee.{of_bits}
 use borrow.Author.Rules.{rules}
@@ -10,8 +10,8 @@ from-zero-requires : tie.Need-from-zero-requires
 from-zero-requires c κs = search rules
 
 returns : tie.Need-returns
-unfolding stepFits decimal of_bits
+unfolding step_fits decimal of_bits
 returns c = simp c.before.from_zero.ensures
 
-pub step-fits-spec : {M : Type 1} → statement M
-step-fits-spec = tie.close (tie.spec from-zero-requires returns)
+pub step_fits_spec : {M : Type 1} → statement M
+step_fits_spec = tie.close (tie.spec from-zero-requires returns)

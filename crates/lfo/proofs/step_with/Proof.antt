@@ -1,5 +1,5 @@
 -- `lfo::step_with` meets its contract. Assumes nothing.
-use Rattle.lfo.specs.Answers.{stepAnswer}
+use Rattle.lfo.specs.Answers.{step_answer}
 use borrow.Author.Rules.{rules}
 use Rattle.lfo.proofs.step_with.Statement.{statement}
 use Rattle.lfo.proofs.step_with.Tie as tie
@@ -14,8 +14,8 @@ moving-requires : tie.Need-moving-requires
 moving-requires c κs = search rules
 
 returns : tie.Need-returns
-unfolding stepAnswer
+unfolding step_answer
 returns c = simp (c.moving.ensures, c.before.step-with.ensures, c.before.before.step-fits.ensures)
 
-pub step-with-spec : {M : Type 1} → statement M
-step-with-spec = tie.close (tie.spec step-fits-requires step-with-requires moving-requires returns)
+pub step_with_spec : {M : Type 1} → statement M
+step_with_spec = tie.close (tie.spec step-fits-requires step-with-requires moving-requires returns)

@@ -1,5 +1,5 @@
 -- `lfo::value` meets its contract. Assumes nothing.
-use Rattle.lfo.specs.Answers.{valueAnswer}
+use Rattle.lfo.specs.Answers.{value_answer}
 use borrow.Author.Rules.{rules}
 use Rattle.lfo.proofs.value.Statement.{statement}
 use Rattle.lfo.proofs.value.Tie as tie
@@ -11,7 +11,7 @@ reading-requires : tie.Need-reading-requires
 reading-requires c κs = search rules
 
 returns : tie.Need-returns
-unfolding valueAnswer
+unfolding value_answer
 returns c = simp (c.reading.ensures, c.before.value.ensures)
 
 pub value_spec : {M : Type 1} → statement M

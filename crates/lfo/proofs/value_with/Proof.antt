@@ -1,5 +1,5 @@
 -- `lfo::value_with` meets its contract. Assumes nothing.
-use Rattle.lfo.specs.Answers.{valueAnswer}
+use Rattle.lfo.specs.Answers.{value_answer}
 use borrow.Author.Rules.{rules}
 use Rattle.lfo.proofs.value_with.Statement.{statement}
 use Rattle.lfo.proofs.value_with.Tie as tie
@@ -11,8 +11,8 @@ reading-requires : tie.Need-reading-requires
 reading-requires c κs = search rules
 
 returns : tie.Need-returns
-unfolding valueAnswer
+unfolding value_answer
 returns c = simp (c.reading.ensures, c.before.value-with.ensures)
 
-pub value-with-spec : {M : Type 1} → statement M
-value-with-spec = tie.close (tie.spec value-with-requires reading-requires returns)
+pub value_with_spec : {M : Type 1} → statement M
+value_with_spec = tie.close (tie.spec value-with-requires reading-requires returns)

@@ -1,5 +1,5 @@
 -- `lfo_inner::delay_step` meets its contract. Assumes nothing.
-use Rattle.lfo_inner.specs.Lfo.{delayStepped}
+use Rattle.lfo_inner.specs.Lfo.{delay_stepped}
 use Rattle.numbers.specs.F32.{decimal}
 use lib.Ieee.{of_bits}
 use borrow.Author.Rules.{rules}
@@ -10,16 +10,16 @@ at-most-one-requires : tie.Need-at-most-one-requires
 at-most-one-requires c κs = search rules
 
 returns : tie.Need-returns
-unfolding delayStepped decimal of_bits
+unfolding delay_stepped decimal of_bits
 returns c = simp (c.at_most_one.ensures, c.before.if1.true)
 
 at-most-one-requires-2 : tie.Need-at-most-one-requires-2
 at-most-one-requires-2 c κs = search rules
 
 returns-2 : tie.Need-returns-2
-unfolding delayStepped decimal of_bits
+unfolding delay_stepped decimal of_bits
 returns-2 c = simp (c.at-most-one2.ensures, c.before.if1.false)
 
-pub delay-step-spec : {M : Type 1} → statement M
-delay-step-spec =
+pub delay_step_spec : {M : Type 1} → statement M
+delay_step_spec =
     tie.close (tie.spec at-most-one-requires returns at-most-one-requires-2 returns-2)

@@ -1,5 +1,5 @@
 -- `lfo_inner::fresh` meets its contract. Assumes nothing.
-use Rattle.lfo_inner.specs.Lfo.{freshLfo}
+use Rattle.lfo_inner.specs.Lfo.{fresh_lfo}
 use Rattle.numbers.specs.F32.{decimal}
 use lib.Ieee.{of_bits}
 use mathlib.Core.Path.{refl}
@@ -7,8 +7,8 @@ use Rattle.lfo_inner.proofs.fresh.Statement.{statement}
 use Rattle.lfo_inner.proofs.fresh.Tie as tie
 
 returns : tie.Need-returns
-unfolding freshLfo decimal of_bits
+unfolding fresh_lfo decimal of_bits
 returns c = refl
 
-pub fresh-spec : {M : Type 1} → statement M
-fresh-spec = tie.close (tie.spec returns)
+pub fresh_spec : {M : Type 1} → statement M
+fresh_spec = tie.close (tie.spec returns)

@@ -1,5 +1,5 @@
 -- `lfo_inner::is_sine` meets its contract. Assumes nothing.
-use Rattle.lfo_inner.specs.Lfo.{isSine}
+use Rattle.lfo_inner.specs.Lfo.{is_sine}
 use borrow.Author.Rules.{rules}
 use Rattle.lfo_inner.proofs.is_sine.Statement.{statement}
 use Rattle.lfo_inner.proofs.is_sine.Tie as tie
@@ -23,31 +23,31 @@ enum-told-6 : tie.Need-enum-told-6
 enum-told-6 c = search rules
 
 returns : tie.Need-returns
-unfolding isSine
+unfolding is_sine
 returns c = simp c.enum_told.given.1
 
 returns-2 : tie.Need-returns-2
-unfolding isSine
+unfolding is_sine
 returns-2 c = simp c.enum-told2.given.1
 
 returns-3 : tie.Need-returns-3
-unfolding isSine
+unfolding is_sine
 returns-3 c = simp c.enum-told3.given.1
 
 returns-4 : tie.Need-returns-4
-unfolding isSine
+unfolding is_sine
 returns-4 c = simp c.enum-told4.given.1
 
 returns-5 : tie.Need-returns-5
-unfolding isSine
+unfolding is_sine
 returns-5 c = simp c.enum-told5.given.1
 
 returns-6 : tie.Need-returns-6
-unfolding isSine
+unfolding is_sine
 returns-6 c = simp c.enum-told6.given.1
 
-pub is-sine-spec : {M : Type 1} → statement M
-is-sine-spec =
+pub is_sine_spec : {M : Type 1} → statement M
+is_sine_spec =
     tie.close
     (tie.spec
     enum_told

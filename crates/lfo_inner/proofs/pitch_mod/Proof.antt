@@ -1,5 +1,5 @@
 -- `lfo_inner::pitch_mod` meets its contract. Assumes nothing.
-use Rattle.lfo_inner.specs.Lfo.{pitchModOf}
+use Rattle.lfo_inner.specs.Lfo.{pitch_mod_of}
 use Rattle.numbers.specs.F32.{decimal}
 use lib.Ieee.{of_bits}
 use borrow.Author.Rules.{rules}
@@ -10,8 +10,8 @@ delay-ramp-requires : tie.Need-delay-ramp-requires
 delay-ramp-requires c κs = search rules
 
 returns : tie.Need-returns
-unfolding pitchModOf decimal of_bits
+unfolding pitch_mod_of decimal of_bits
 returns c = simp c.before.delay-ramp.ensures
 
-pub pitch-mod-spec : {M : Type 1} → statement M
-pitch-mod-spec = tie.close (tie.spec delay-ramp-requires returns)
+pub pitch_mod_spec : {M : Type 1} → statement M
+pitch_mod_spec = tie.close (tie.spec delay-ramp-requires returns)

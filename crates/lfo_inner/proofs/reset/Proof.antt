@@ -13,5 +13,5 @@ returns-2 : tie.Need-returns-2
 unfolding restarted moved_to decimal of_bits
 returns-2 c = simp c.if1.false
 
-pub reset-spec : {M : Type 1} → statement M
-reset-spec = tie.close (tie.spec returns returns-2)
+pub reset_spec : {M : Type 1} → statement M
+reset_spec = tie.close (tie.spec returns returns-2)

@@ -17,5 +17,5 @@ returns : tie.Need-returns
 unfolding settled
 returns c = simp (c.settle.ensures, c.before.value.ensures, c.before.before.scrub-silent.ensures)
 
-pub scrub-spec : {M : Type 1} → statement M
-scrub-spec = tie.close (tie.spec scrub-silent-requires value-requires settle-requires returns)
+pub scrub_spec : {M : Type 1} → statement M
+scrub_spec = tie.close (tie.spec scrub-silent-requires value-requires settle-requires returns)

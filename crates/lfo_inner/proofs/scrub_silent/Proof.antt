@@ -1,6 +1,6 @@
 -- `lfo_inner::scrub_silent` meets its contract. Assumes nothing.
 use Prim.Native.Nat.{◌<◌, ◌^◌}
-use Rattle.lfo_inner.proofs.Scrubs.{scrubbed-from}
+use Rattle.lfo_inner.proofs.Scrubs.{scrubbed_from}
 use Rattle.numbers.proofs.Signed.{back}
 use lib.Signed.{mag}
 use native.Mathlib.Omega.{arith}
@@ -41,13 +41,13 @@ returns c =
     let s = told.before.before.before.before in
     let same = back n.result n.type-inv in
     let held : mag s.args.lfo.phase_integral < 2 ^ 31 = omega (arith, told.struct_told.given) in
-    scrubbed-from s.args.lfo s.args.state s.args.sample n.ensures same same same
+    scrubbed_from s.args.lfo s.args.state s.args.sample n.ensures same same same
     (back s.args.lfo.phase_integral held)
     told.before.i32-as-f32.ensures at-differs.differs.ensures at-draw-if.draw-if.ensures
     c.before.delay-scrub.ensures c.move-to.ensures
 
-pub scrub-silent-spec : {M : Type 1} → statement M
-scrub-silent-spec =
+pub scrub_silent_spec : {M : Type 1} → statement M
+scrub_silent_spec =
     tie.close
     (tie.spec
     f32-as-i32-requires

@@ -17,5 +17,5 @@ returns : tie.Need-returns
 unfolding settled
 returns c = simp (c.settle.ensures, c.before.value-with.ensures, c.before.before.scrub-silent.ensures)
 
-pub scrub-with-spec : {M : Type 1} → statement M
-scrub-with-spec = tie.close (tie.spec scrub-silent-requires value-with-requires settle-requires returns)
+pub scrub_with_spec : {M : Type 1} → statement M
+scrub_with_spec = tie.close (tie.spec scrub-silent-requires value-with-requires settle-requires returns)

@@ -9,5 +9,5 @@ with-value-requires c κs = search rules
 returns : tie.Need-returns
 returns c = simp c.with_value.ensures
 
-pub settle-spec : {M : Type 1} → statement M
-settle-spec = tie.close (tie.spec with-value-requires returns)
+pub settle_spec : {M : Type 1} → statement M
+settle_spec = tie.close (tie.spec with-value-requires returns)

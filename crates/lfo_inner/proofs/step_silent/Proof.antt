@@ -30,8 +30,8 @@ returns c =
     let at-draw-if = c.before.before.before.before in
     simp (c.move-to.ensures, c.before.wrap.ensures, c.before.before.delay-step.ensures, at-draw-if.draw-if.ensures)
 
-pub step-silent-spec : {M : Type 1} → statement M
-step-silent-spec =
+pub step_silent_spec : {M : Type 1} → statement M
+step_silent_spec =
     tie.close
     (tie.spec
     draw-if-requires

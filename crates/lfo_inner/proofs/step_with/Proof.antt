@@ -17,5 +17,5 @@ returns : tie.Need-returns
 unfolding settled
 returns c = simp (c.settle.ensures, c.before.value-with.ensures, c.before.before.step-silent.ensures)
 
-pub step-with-spec : {M : Type 1} → statement M
-step-with-spec = tie.close (tie.spec step-silent-requires value-with-requires settle-requires returns)
+pub step_with_spec : {M : Type 1} → statement M
+step_with_spec = tie.close (tie.spec step-silent-requires value-with-requires settle-requires returns)

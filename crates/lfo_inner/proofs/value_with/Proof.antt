@@ -1,6 +1,6 @@
 -- `lfo_inner::value_with` meets its contract. Assumes nothing.
 use mathlib.Core.Path.{sym, ◌∙◌}
-use Rattle.lfo_inner.proofs.Waves.{sine-at}
+use Rattle.lfo_inner.proofs.Waves.{sine_at}
 use borrow.Author.Rules.{rules}
 use Rattle.lfo_inner.proofs.value_with.Statement.{statement}
 use Rattle.lfo_inner.proofs.value_with.Tie as tie
@@ -16,7 +16,7 @@ returns c =
     let test = c.before.before in
     let lfo = test.before.args.lfo in
     c.sine-wave.ensures
-    ∙ sine-at _ lfo.waveform lfo.phase lfo.random_value (sym test.is-sine.ensures ∙ c.before.if1.true)
+    ∙ sine_at _ lfo.waveform lfo.phase lfo.random_value (sym test.is-sine.ensures ∙ c.before.if1.true)
 
 plain-wave-requires : tie.Need-plain-wave-requires
 plain-wave-requires c κs = search rules
@@ -24,6 +24,6 @@ plain-wave-requires c κs = search rules
 returns-2 : tie.Need-returns-2
 returns-2 c = c.plain-wave.ensures _ (sym c.before.before.is-sine.ensures ∙ c.before.if1.false)
 
-pub value-with-spec : {M : Type 1} → statement M
-value-with-spec =
+pub value_with_spec : {M : Type 1} → statement M
+value_with_spec =
     tie.close (tie.spec is-sine-requires sine-wave-requires returns plain-wave-requires returns-2)

@@ -8,5 +8,5 @@ returns : tie.Need-returns
 unfolding valued
 returns c = refl
 
-pub with-value-spec : {M : Type 1} → statement M
-with-value-spec = tie.close (tie.spec returns)
+pub with_value_spec : {M : Type 1} → statement M
+with_value_spec = tie.close (tie.spec returns)

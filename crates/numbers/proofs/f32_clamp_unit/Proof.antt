@@ -18,5 +18,5 @@ returns-3 : tie.Need-returns-3
 unfolding clamped decimal round of_bits
 returns-3 c = simp (c.before.if1.false, c.if2.false)
 
-pub f32-clamp-unit-spec : {M : Type 1} → statement M
-f32-clamp-unit-spec = tie.close (tie.spec returns returns-2 returns-3)
+pub f32_clamp_unit_spec : {M : Type 1} → statement M
+f32_clamp_unit_spec = tie.close (tie.spec returns returns-2 returns-3)

@@ -7,8 +7,8 @@ use Rattle.numbers.proofs.Casts.{only_nan}
 use Rattle.numbers.proofs.f32_from_bits.Statement.{statement}
 use Rattle.numbers.proofs.f32_from_bits.Tie as tie
 
-not-nan : (b : ℕ) → b % 2147483648 ≤ 2139095040 → nan_bits binary32 b ≡ false
-not-nan b h = nan_bits_above binary32 b ∙ le-ltb 2139095040 (b % 2147483648) h
+not_nan : (b : ℕ) → b % 2147483648 ≤ 2139095040 → nan_bits binary32 b ≡ false
+not_nan b h = nan_bits_above binary32 b ∙ le-ltb 2139095040 (b % 2147483648) h
 
 is_nan : (b : ℕ) → 2139095040 < b % 2147483648 → of_bits binary32 b ≡ nan
 is_nan b h =
@@ -20,10 +20,10 @@ unfolding div of_bits
 returns c = sym (is_nan c.before.args.b c.if1.true)
 
 float-from-bits-result : tie.Need-float-from-bits-result
-float-from-bits-result c = subst (λ (t : Bool). T (not t)) (sym (not-nan c.before.args.b c.if1.false)) tt
+float-from-bits-result c = subst (λ (t : Bool). T (not t)) (sym (not_nan c.before.args.b c.if1.false)) tt
 
 returns-2 : tie.Need-returns-2
 returns-2 c = search rules
 
-pub f32-from-bits-spec : {M : Type 1} → statement M
-f32-from-bits-spec = tie.close (tie.spec returns float-from-bits-result returns-2)
+pub f32_from_bits_spec : {M : Type 1} → statement M
+f32_from_bits_spec = tie.close (tie.spec returns float-from-bits-result returns-2)

@@ -2,21 +2,21 @@
 -- Assumes nothing.
 use Rattle.std.proofs.Common.{sym, ◌∙◌}
 use Rattle.numbers.specs.Extremes.{maximum}
-use Rattle.numbers.proofs.Casts.{ne-self}
+use Rattle.numbers.proofs.Casts.{ne_self}
 use Rattle.numbers.proofs.f32_max.Statement.{statement}
 use Rattle.numbers.proofs.f32_max.Tie as tie
 
 returns : tie.Need-returns
 unfolding maximum
-returns c = simp (sym (ne-self c.before.args.a) ∙ c.if1.true)
+returns c = simp (sym (ne_self c.before.args.a) ∙ c.if1.true)
 
 returns-2 : tie.Need-returns-2
 unfolding maximum
-returns-2 c = simp (sym (ne-self c.before.before.args.a) ∙ c.before.if1.false, c.if2.true)
+returns-2 c = simp (sym (ne_self c.before.before.args.a) ∙ c.before.if1.false, c.if2.true)
 
 returns-3 : tie.Need-returns-3
 unfolding maximum
-returns-3 c = simp (sym (ne-self c.before.before.args.a) ∙ c.before.if1.false, c.if2.false)
+returns-3 c = simp (sym (ne_self c.before.before.args.a) ∙ c.before.if1.false, c.if2.false)
 
-pub f32-max-spec : {M : Type 1} → statement M
-f32-max-spec = tie.close (tie.spec returns returns-2 returns-3)
+pub f32_max_spec : {M : Type 1} → statement M
+f32_max_spec = tie.close (tie.spec returns returns-2 returns-3)

@@ -11,5 +11,5 @@ nearest-i32-to-f32-requires c κs = search rules
 returns : tie.Need-returns
 returns c = c.nearest-i32-to-f32.ensures ∙ ap (of_int binary32) (back c.before.args.n c.before.ranges.n.sfits)
 
-pub i32-as-f32-spec : {M : Type 1} → statement M
-i32-as-f32-spec = tie.close (tie.spec nearest-i32-to-f32-requires returns)
+pub i32_as_f32_spec : {M : Type 1} → statement M
+i32_as_f32_spec = tie.close (tie.spec nearest-i32-to-f32-requires returns)

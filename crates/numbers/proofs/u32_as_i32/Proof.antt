@@ -28,6 +28,6 @@ returns-2 c =
     ap (λ (z : ℤ). to_z w32 (of_z w32 z)) (lifted b c.if1.false c.before.ranges.b.fits)
     ∙ to_z-of_z w32 (to_z w32 b) (to_z-Fits w32 b c.before.ranges.b)
 
-pub u32-as-i32-spec : {M : Type 1} → statement M
-u32-as-i32-spec =
+pub u32_as_i32_spec : {M : Type 1} → statement M
+u32_as_i32_spec =
     tie.close (tie.spec cast-result sub-result cast-result-2 sub-result-2 returns returns-2)

@@ -13,5 +13,5 @@ cast-result c = search rules
 returns : tie.Need-returns
 returns c = search rules
 
-pub wrapping-mul-u32-spec : {M : Type 1} → statement M
-wrapping-mul-u32-spec = tie.close (tie.spec mul_wide cast-result returns)
+pub wrapping_mul_u32_spec : {M : Type 1} → statement M
+wrapping_mul_u32_spec = tie.close (tie.spec mul_wide cast-result returns)

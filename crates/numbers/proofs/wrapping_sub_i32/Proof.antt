@@ -1,5 +1,5 @@
 -- `numbers::wrapping_sub_i32` meets its contract. Assumes nothing.
-use Rattle.numbers.specs.Words.{difference32, differenceSigned}
+use Rattle.numbers.specs.Words.{difference32, difference_signed}
 use Rattle.numbers.proofs.Signed.{by_bits}
 use Rattle.std.proofs.Common.{rules}
 use Rattle.numbers.proofs.wrapping_sub_i32.Statement.{statement}
@@ -18,7 +18,7 @@ u32-as-i32-requires : tie.Need-u32-as-i32-requires
 u32-as-i32-requires c κs = search rules
 
 returns : tie.Need-returns
-unfolding differenceSigned
+unfolding difference_signed
 returns c =
     let at-i32-as-u32 = c.before.before.before in
     let s = c.before.before.before.before in
@@ -26,8 +26,8 @@ returns c =
     at-i32-as-u32.i32-as-u32.ensures c.before.before.i32-as-u322.ensures
     c.before.wrapping-sub-u32.ensures c.u32-as-i32.ensures
 
-pub wrapping-sub-i32-spec : {M : Type 1} → statement M
-wrapping-sub-i32-spec =
+pub wrapping_sub_i32_spec : {M : Type 1} → statement M
+wrapping_sub_i32_spec =
     tie.close
     (tie.spec
     i32-as-u32-requires

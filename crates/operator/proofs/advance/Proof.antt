@@ -12,5 +12,5 @@ returns : tie.Need-returns
 unfolding moved
 returns c = simp c.before.wrapping-add-u32.ensures
 
-pub advance-spec : {M : Type 1} → statement M
-advance-spec = tie.close (tie.spec wrapping-add-u32-requires returns)
+pub advance_spec : {M : Type 1} → statement M
+advance_spec = tie.close (tie.spec wrapping-add-u32-requires returns)

@@ -3,15 +3,15 @@ use mathlib.Core.Path.{◌≡◌, refl}
 use mathlib.Core.Bool.{◌&&◌}
 use Prim.Native.Nat.{◌-◌}
 use lib.ListN.{length, drop}
-use Rattle.operator.specs.Parts.{allNear}
-use Rattle.operator.proofs.Parts.{near-turn, near-done}
+use Rattle.operator.specs.Parts.{all_near}
+use Rattle.operator.proofs.Parts.{near_turn, near_done}
 use borrow.Author.Rules.{rules}
 use native.Mathlib.Omega.{arith}
 use Rattle.operator.proofs.all_near.Statement.{statement}
 use Rattle.operator.proofs.all_near.Tie as tie
 
 abbrev invariant-loop : tie.invariant-loop
-invariant-loop modulation near₀ i₀ near i = (near && allNear (drop i modulation)) ≡ allNear modulation
+invariant-loop modulation near₀ i₀ near i = (near && all_near (drop i modulation)) ≡ all_near modulation
 
 abbrev decreases-loop : tie.decreases-loop
 decreases-loop modulation near₀ i₀ near i = length modulation - i
@@ -37,14 +37,14 @@ loop-less c = omega arith
 loop-again : tie.Need-loop-preserved invariant-loop decreases-loop
 loop-again c =
     let at-loop = c.before.before.before in
-    near-turn _ _ at-loop.loop.near c.is-near.result at-loop.loop.invariant c.before.before.loop-test.true
+    near_turn _ _ at-loop.loop.near c.is-near.result at-loop.loop.invariant c.before.before.loop-test.true
     c.is-near.ensures
 
 returns : tie.Need-returns invariant-loop decreases-loop
-returns c = near-done _ _ _ c.before.loop.invariant c.loop-test.false
+returns c = near_done _ _ _ c.before.loop.invariant c.loop-test.false
 
-pub all-near-spec : {M : Type 1} → statement M
-all-near-spec =
+pub all_near_spec : {M : Type 1} → statement M
+all_near_spec =
     tie.close
     (tie.spec
     invariant-loop

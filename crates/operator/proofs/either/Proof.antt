@@ -27,8 +27,8 @@ same-length-2 c = search rules
 returns-2 : tie.Need-returns-2
 returns-2 c = search rules
 
-pub either-spec : {M : Type 1} → statement M
-either-spec =
+pub either_spec : {M : Type 1} → statement M
+either_spec =
     tie.close
     (tie.spec
     all-near-requires

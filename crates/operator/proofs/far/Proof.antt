@@ -6,10 +6,10 @@ use Prim.Native.Nat.{◌-◌}
 use lib.ListN.{length, length-set}
 use borrow.Author.Rules.{rules}
 use native.Mathlib.Omega.{arith}
-use Rattle.operator.specs.Chain.{entered, kept, through, allMoved}
+use Rattle.operator.specs.Chain.{entered, kept, through, all_moved}
 use Rattle.operator.specs.Chain.Source.{external, feedback}
 use Rattle.operator.specs.Parts.{Going}
-use Rattle.operator.proofs.Loop.{going-first, turn-parts, going_done}
+use Rattle.operator.proofs.Loop.{going_first, turn_parts, going_done}
 use Rattle.operator.proofs.far.Statement.{statement}
 use Rattle.operator.proofs.far.Tie as tie
 
@@ -22,7 +22,7 @@ abbrev decreases-loop : tie.decreases-loop
 decreases-loop pairs add modulation out₀ l₀ f i₀ out l i = length out - i
 
 loop-holds : tie.Need-loop-init invariant-loop decreases-loop
-loop-holds c = going-first
+loop-holds c = going_first
 
 mul-sample : tie.Need-overflow-mul-sample invariant-loop decreases-loop
 mul-sample c = omega arith
@@ -58,13 +58,13 @@ loop-less : tie.Need-loop-smaller invariant-loop decreases-loop
 loop-less c = simp length-set (omega arith)
 
 loop-again : tie.Need-loop-preserved invariant-loop decreases-loop
-unfolding entered kept through allMoved
+unfolding entered kept through all_moved
 loop-again c =
     let at-sample = c.before.before.before in
     let at-loop-test = at-sample.before.before in
     let at-loop = at-loop-test.before in
     let moved = c.before.before.advance.ensures in
-    turn-parts at-loop.loop.invariant at-loop-test.loop-test.true at-sample.sample.ensures (rw moved) refl
+    turn_parts at-loop.loop.invariant at-loop-test.loop-test.true at-sample.sample.ensures (rw moved) refl
     c.mix.ensures
 
 same_length : tie.Need-same-length invariant-loop decreases-loop
@@ -73,8 +73,8 @@ same_length c = c.before.loop.invariant.size
 returns : tie.Need-returns invariant-loop decreases-loop
 returns c = going_done c.before.loop.invariant c.loop-test.false
 
-pub far-spec : {M : Type 1} → statement M
-far-spec =
+pub far_spec : {M : Type 1} → statement M
+far_spec =
     tie.close
     (tie.spec
     invariant-loop

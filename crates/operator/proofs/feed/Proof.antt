@@ -9,5 +9,5 @@ returns : tie.Need-returns
 unfolding fed
 returns c = refl
 
-pub feed-spec : {M : Type 1} → statement M
-feed-spec = tie.close (tie.spec returns)
+pub feed_spec : {M : Type 1} → statement M
+feed_spec = tie.close (tie.spec returns)

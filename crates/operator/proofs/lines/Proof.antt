@@ -3,7 +3,7 @@ use mathlib.Core.Path.{◌≡◌, ap}
 use lib.Ieee.{Float}
 use Rattle.numbers.specs.F32.{◌⊗◌}
 use Prim.Native.Nat.{◌-◌, ◌≤◌}
-use Rattle.operator.proofs.Parts.{Running, running-first, running-turn}
+use Rattle.operator.proofs.Parts.{Running, running_first, running_turn}
 use borrow.Author.Rules.{rules}
 use native.Mathlib.Omega.{arith}
 use Rattle.operator.proofs.lines.Statement.{statement}
@@ -17,7 +17,7 @@ abbrev decreases-loop : tie.decreases-loop
 decreases-loop pairs add modulation i n at out₀ l₀ f k₀ out l k = n - k
 
 loop-holds : tie.Need-loop-init invariant-loop decreases-loop
-loop-holds c = (running-first, omega arith)
+loop-holds c = (running_first, omega arith)
 
 mul-line : tie.Need-overflow-mul-line invariant-loop decreases-loop
 mul-line c = omega arith
@@ -66,7 +66,7 @@ loop-again c =
     let at_pre = at-loop.before.before.before.before.before in
     let v = at-loop.loop.invariant in
     let q = at_pre.requires in (
-      running-turn v.0 at-loop-test.loop-test.true q.0 q.2
+      running_turn v.0 at-loop-test.loop-test.true q.0 q.2
           (ap (λ (x : Float). x ⊗ at-loop.loop.first.amplitude) at-line.line.ensures.0)
           c.before.before.advance.ensures c.mix.ensures,
       omega arith,
@@ -81,8 +81,8 @@ returns c =
     let all : c.before.loop.k ≡ at-start.args.n = omega arith in
     rw all at c.before.loop.invariant.0.going
 
-pub lines-spec : {M : Type 1} → statement M
-lines-spec =
+pub lines_spec : {M : Type 1} → statement M
+lines_spec =
     tie.close
     (tie.spec
     invariant-loop

@@ -12,5 +12,5 @@ returns-2 : tie.Need-returns-2
 unfolding mixed
 returns-2 c = simp c.if1.false
 
-pub mix-spec : {M : Type 1} → statement M
-mix-spec = tie.close (tie.spec returns returns-2)
+pub mix_spec : {M : Type 1} → statement M
+mix_spec = tie.close (tie.spec returns returns-2)

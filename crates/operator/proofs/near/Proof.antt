@@ -5,7 +5,7 @@ use lib.ListN.{length}
 use Rattle.operator.specs.Chain.{one}
 use Rattle.operator.specs.Chain.Source.{external}
 use Rattle.operator.specs.Parts.{Going}
-use Rattle.operator.proofs.Loop.{going-first, going_on, going_done}
+use Rattle.operator.proofs.Loop.{going_first, going_on, going_done}
 use borrow.Author.Rules.{rules}
 use native.Mathlib.Omega.{arith}
 use Rattle.operator.proofs.near.Statement.{statement}
@@ -19,7 +19,7 @@ abbrev decreases-loop : tie.decreases-loop
 decreases-loop pairs add modulation out₀ at₀ t₀ i₀ out at t i = length out - i
 
 loop-holds : tie.Need-loop-init invariant-loop decreases-loop
-loop-holds c = (going-first, refl)
+loop-holds c = (going_first, refl)
 
 portion-requires : tie.Need-portion-requires invariant-loop decreases-loop
 portion-requires c κs = search rules
@@ -61,8 +61,8 @@ same_length c = c.before.loop.invariant.0.size
 returns : tie.Need-returns invariant-loop decreases-loop
 returns c = going_done c.before.loop.invariant.0 c.loop-test.false
 
-pub near-spec : {M : Type 1} → statement M
-near-spec =
+pub near_spec : {M : Type 1} → statement M
+near_spec =
     tie.close
     (tie.spec
     invariant-loop

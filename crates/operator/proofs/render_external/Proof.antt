@@ -25,7 +25,7 @@ returns-2 c =
     let at-if1 = c.before.before.before.before in
     rw at-if1.if1.false c.before.before.either2.ensures
 
-pub render-external-spec : {M : Type 1} → statement M
-render-external-spec =
+pub render_external_spec : {M : Type 1} → statement M
+render_external_spec =
     tie.close
     (tie.spec either-requires same_length returns either-requires-2 same-length-2 returns-2)

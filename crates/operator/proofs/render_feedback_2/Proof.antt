@@ -6,11 +6,11 @@ use Prim.Native.Nat.{◌-◌}
 use lib.ListN.{length, length-set}
 use borrow.Author.Rules.{rules}
 use native.Mathlib.Omega.{arith}
-use Rattle.operator.specs.Chain.{entered, kept, through, allMoved}
+use Rattle.operator.specs.Chain.{entered, kept, through, all_moved}
 use Rattle.operator.specs.Chain.Source.{feedback}
 use Rattle.operator.specs.Sample.{sampled}
 use Rattle.operator.specs.Parts.{Going}
-use Rattle.operator.proofs.Loop.{going-first, turn-parts, going_done}
+use Rattle.operator.proofs.Loop.{going_first, turn_parts, going_done}
 use Rattle.operator.proofs.render_feedback_2.Statement.{statement}
 use Rattle.operator.proofs.render_feedback_2.Tie as tie
 
@@ -23,7 +23,7 @@ abbrev decreases-loop : tie.decreases-loop
 decreases-loop pairs scale add out₀ l₀ m₀ f₀ i₀ out l m f i = length out - i
 
 loop-holds : tie.Need-loop-init invariant-loop decreases-loop
-loop-holds c = going-first
+loop-holds c = going_first
 
 feed-requires : tie.Need-feed-requires invariant-loop decreases-loop
 feed-requires c κs = search rules
@@ -71,7 +71,7 @@ loop-less : tie.Need-loop-smaller invariant-loop decreases-loop
 loop-less c = simp length-set (omega arith)
 
 loop-again : tie.Need-loop-preserved invariant-loop decreases-loop
-unfolding entered kept through allMoved
+unfolding entered kept through all_moved
 loop-again c =
     let at-advance2 = c.before.before.before in
     let at-advance = at-advance2.before in
@@ -80,7 +80,7 @@ loop-again c =
     let at-feed = at-sample.before in
     let at-loop-test = at-feed.before in
     let at-loop = at-loop-test.before in
-    turn-parts at-loop.loop.invariant at-loop-test.loop-test.true
+    turn_parts at-loop.loop.invariant at-loop-test.loop-test.true
     (at-sample2.sample2.ensures ∙ ap (sampled _ _)
     (at-sample.sample.ensures ∙ ap (sampled _ _) at-feed.feed.ensures))
     (rw (at-advance.advance.ensures, at-advance2.advance2.ensures)) c.before.before.push.ensures
@@ -92,8 +92,8 @@ same_length c = c.before.loop.invariant.size
 returns : tie.Need-returns invariant-loop decreases-loop
 returns c = going_done c.before.loop.invariant c.loop-test.false
 
-pub render-feedback-2-spec : {M : Type 1} → statement M
-render-feedback-2-spec =
+pub render_feedback_2_spec : {M : Type 1} → statement M
+render_feedback_2_spec =
     tie.close
     (tie.spec
     invariant-loop

@@ -8,10 +8,10 @@ use lib.Ieee.{of_bits}
 use borrow.Author.Rules.{rules}
 use native.Mathlib.Omega.{arith}
 use Rattle.numbers.specs.F32.{decimal}
-use Rattle.operator.specs.Chain.{entered, kept, through, allMoved}
+use Rattle.operator.specs.Chain.{entered, kept, through, all_moved}
 use Rattle.operator.specs.Chain.Source.{none, feedback}
 use Rattle.operator.specs.Parts.{Going}
-use Rattle.operator.proofs.Loop.{going-first, turn-parts, going_done}
+use Rattle.operator.proofs.Loop.{going_first, turn_parts, going_done}
 use Rattle.operator.proofs.render_none.Statement.{statement}
 use Rattle.operator.proofs.render_none.Tie as tie
 
@@ -24,7 +24,7 @@ abbrev decreases-loop : tie.decreases-loop
 decreases-loop pairs add out₀ l₀ f i₀ out l i = length out - i
 
 loop-holds : tie.Need-loop-init invariant-loop decreases-loop
-loop-holds c = going-first
+loop-holds c = going_first
 
 sample-requires : tie.Need-sample-requires invariant-loop decreases-loop
 sample-requires c κs = search rules
@@ -54,12 +54,12 @@ loop-less : tie.Need-loop-smaller invariant-loop decreases-loop
 loop-less c = simp length-set (omega arith)
 
 loop-again : tie.Need-loop-preserved invariant-loop decreases-loop
-unfolding entered kept through allMoved decimal of_bits
+unfolding entered kept through all_moved decimal of_bits
 loop-again c =
     let at-sample = c.before.before.before in
     let at-loop-test = at-sample.before in
     let at-loop = at-loop-test.before in
-    turn-parts at-loop.loop.invariant at-loop-test.loop-test.true at-sample.sample.ensures
+    turn_parts at-loop.loop.invariant at-loop-test.loop-test.true at-sample.sample.ensures
     (rw c.before.before.advance.ensures) refl c.mix.ensures
 
 same_length : tie.Need-same-length invariant-loop decreases-loop
@@ -68,8 +68,8 @@ same_length c = c.before.loop.invariant.size
 returns : tie.Need-returns invariant-loop decreases-loop
 returns c = going_done c.before.loop.invariant c.loop-test.false
 
-pub render-none-spec : {M : Type 1} → statement M
-render-none-spec =
+pub render_none_spec : {M : Type 1} → statement M
+render_none_spec =
     tie.close
     (tie.spec
     invariant-loop

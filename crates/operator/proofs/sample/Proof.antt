@@ -15,5 +15,5 @@ returns : tie.Need-returns
 unfolding sampled
 returns c = simp (c.before.sine-pm.ensures.0, c.before.before.wrapping-add-u32.ensures)
 
-pub sample-spec : {M : Type 1} → statement M
-sample-spec = tie.close (tie.spec wrapping-add-u32-requires sine-pm-requires returns)
+pub sample_spec : {M : Type 1} → statement M
+sample_spec = tie.close (tie.spec wrapping-add-u32-requires sine-pm-requires returns)

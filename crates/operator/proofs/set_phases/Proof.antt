@@ -2,7 +2,7 @@
 use mathlib.Core.Path.{◌≡◌}
 use Prim.Native.Nat.{◌-◌, ◌≤◌}
 use lib.ListN.{length}
-use Rattle.operator.proofs.Parts.{Placing, placing-first, placing-turn, near-at, set-length}
+use Rattle.operator.proofs.Parts.{Placing, placing_first, placing_turn, near_at, set_length}
 use borrow.Author.Rules.{rules}
 use native.Mathlib.Omega.{arith}
 use Rattle.operator.proofs.set_phases.Statement.{statement}
@@ -16,7 +16,7 @@ abbrev decreases-loop : tie.decreases-loop
 decreases-loop modulation i n phase step at₀ p₀ k₀ at p k = n - k
 
 loop-holds : tie.Need-loop-init invariant-loop decreases-loop
-loop-holds c = (placing-first _ _ _ _ _, c.before.requires.3, omega arith)
+loop-holds c = (placing_first _ _ _ _ _, c.before.requires.3, omega arith)
 
 wrapping-add-u32-requires : tie.Need-wrapping-add-u32-requires invariant-loop decreases-loop
 wrapping-add-u32-requires c κs = search rules
@@ -33,7 +33,7 @@ shared-slice-read-modulate-near c = omega arith
 modulate-near-requires : tie.Need-modulate-near-requires invariant-loop decreases-loop
 modulate-near-requires c κs =
     let at_pre = c.before.before.before.before.before in
-    near-at _ _ at_pre.requires.0 (omega arith)
+    near_at _ _ at_pre.requires.0 (omega arith)
 
 mul_at : tie.Need-overflow-mul-at invariant-loop decreases-loop
 mul_at c = omega arith
@@ -51,9 +51,9 @@ loop-again : tie.Need-loop-preserved invariant-loop decreases-loop
 loop-again c =
     let at-loop = c.before.before.before.before in
     let v = at-loop.loop.invariant in (
-      placing-turn _ _ _ _ _ at-loop.loop.p _ _ _ v.0 (omega arith)
+      placing_turn _ _ _ _ _ at-loop.loop.p _ _ _ v.0 (omega arith)
           c.before.before.wrapping-add-u32.ensures c.modulate-near.ensures,
-      set-length at-loop.loop.at _ _
+      set_length at-loop.loop.at _ _
           v.1,
       omega arith,
     )
@@ -66,8 +66,8 @@ returns c =
     let all : c.before.loop.k ≡ a.n = omega arith in
     ((rw all at v.0.before), v.1)
 
-pub set-phases-spec : {M : Type 1} → statement M
-set-phases-spec =
+pub set_phases_spec : {M : Type 1} → statement M
+set_phases_spec =
     tie.close
     (tie.spec
     invariant-loop

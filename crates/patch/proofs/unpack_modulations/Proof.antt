@@ -1,8 +1,8 @@
 -- `patch::unpack_modulations` meets its contract. Each field is read by `whole` or `field`. Assumes nothing.
 use borrow.Author.Rules.{rules}
-use Rattle.patch.specs.Packed.{bitsIn, readIn}
-use Rattle.patch.specs.Form.{modulationsWith}
-use Rattle.patch.specs.Layout.{lfoField}
+use Rattle.patch.specs.Packed.{bits_in, read_in}
+use Rattle.patch.specs.Form.{modulations_with}
+use Rattle.patch.specs.Layout.{lfo_field}
 use Rattle.patch.proofs.unpack_modulations.Statement.{statement}
 use Rattle.patch.proofs.unpack_modulations.Tie as tie
 
@@ -31,11 +31,11 @@ field-requires-3 : tie.Need-field-requires-3
 field-requires-3 c κs = search rules
 
 returns : tie.Need-returns
-unfolding modulationsWith readIn bitsIn lfoField
+unfolding modulations_with read_in bits_in lfo_field
 returns c = cc
 
-pub unpack-modulations-spec : {M : Type 1} → statement M
-unpack-modulations-spec =
+pub unpack_modulations_spec : {M : Type 1} → statement M
+unpack_modulations_spec =
     tie.close
     (tie.spec
     shared-slice-read-shape

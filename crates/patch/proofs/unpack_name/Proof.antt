@@ -1,7 +1,7 @@
 -- `patch::unpack_name` meets its contract. Each letter is read by `letter`. Assumes nothing.
 use borrow.Author.Rules.{rules}
-use Rattle.patch.specs.Packed.{bitsIn, readIn}
-use Rattle.patch.specs.Form.{nameWith}
+use Rattle.patch.specs.Packed.{bits_in, read_in}
+use Rattle.patch.specs.Form.{name_with}
 use Rattle.patch.specs.Layout.{field_of}
 use Rattle.patch.proofs.unpack_name.Statement.{statement}
 use Rattle.patch.proofs.unpack_name.Tie as tie
@@ -37,11 +37,11 @@ letter-requires-10 : tie.Need-letter-requires-10
 letter-requires-10 c κs = search rules
 
 returns : tie.Need-returns
-unfolding nameWith readIn bitsIn field_of
+unfolding name_with read_in bits_in field_of
 returns c = cc
 
-pub unpack-name-spec : {M : Type 1} → statement M
-unpack-name-spec =
+pub unpack_name_spec : {M : Type 1} → statement M
+unpack_name_spec =
     tie.close
     (tie.spec
     letter-requires

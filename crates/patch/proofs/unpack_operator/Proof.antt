@@ -1,9 +1,9 @@
 -- `patch::unpack_operator` meets its contract. The envelope and the scaling are unpacked by their own functions, every
 -- other field is read by `whole` or `field`. Assumes nothing.
 use borrow.Author.Rules.{rules}
-use Rattle.patch.specs.Packed.{bitsIn, readIn}
-use Rattle.patch.specs.Form.{operatorWith}
-use Rattle.patch.specs.Layout.{later, operatorField}
+use Rattle.patch.specs.Packed.{bits_in, read_in}
+use Rattle.patch.specs.Form.{operator_with}
+use Rattle.patch.specs.Layout.{later, operator_field}
 use Rattle.patch.proofs.unpack_operator.Statement.{statement}
 use Rattle.patch.proofs.unpack_operator.Tie as tie
 
@@ -62,7 +62,7 @@ field-requires-6 : tie.Need-field-requires-6
 field-requires-6 c κs = search rules
 
 returns : tie.Need-returns
-unfolding operatorWith readIn bitsIn later operatorField
+unfolding operator_with read_in bits_in later operator_field
 returns c =
     let at-field4 = c.before.before.before in
     let at-whole = at-field4.before in
@@ -73,8 +73,8 @@ returns c =
     let at-unpack-stages = at-unpack-scaling.before in
     rw (c.field6.ensures, c.before.whole2.ensures, c.before.before.field5.ensures, at-field4.field4.ensures, at-whole.whole.ensures, at-field3.field3.ensures, at-field2.field2.ensures, at_field.field.ensures, at-unpack-scaling.unpack-scaling.ensures, at-unpack-stages.unpack-stages.ensures)
 
-pub unpack-operator-spec : {M : Type 1} → statement M
-unpack-operator-spec =
+pub unpack_operator_spec : {M : Type 1} → statement M
+unpack_operator_spec =
     tie.close
     (tie.spec
     add-rates

@@ -1,7 +1,7 @@
 -- `patch::unpack_operators` meets its contract. Operator k is unpacked from byte 17 k. Assumes nothing.
 use borrow.Author.Rules.{rules}
 use Rattle.patch.specs.Packed.{unpacked}
-use Rattle.patch.specs.Form.{patchWith}
+use Rattle.patch.specs.Form.{patch_with}
 use Rattle.patch.specs.Layout.{field_of}
 use Rattle.patch.proofs.unpack_operators.Statement.{statement}
 use Rattle.patch.proofs.unpack_operators.Tie as tie
@@ -25,11 +25,11 @@ unpack-operator-requires-6 : tie.Need-unpack-operator-requires-6
 unpack-operator-requires-6 c κs = search rules
 
 returns : tie.Need-returns
-unfolding unpacked patchWith field_of
+unfolding unpacked patch_with field_of
 returns c = cc
 
-pub unpack-operators-spec : {M : Type 1} → statement M
-unpack-operators-spec =
+pub unpack_operators_spec : {M : Type 1} → statement M
+unpack_operators_spec =
     tie.close
     (tie.spec
     unpack-operator-requires

@@ -1,8 +1,8 @@
 -- `patch::unpack_scaling` meets its contract. Each field is read by `whole` or `field`. Assumes nothing.
 use borrow.Author.Rules.{rules}
-use Rattle.patch.specs.Packed.{bitsIn, readIn}
-use Rattle.patch.specs.Form.{scalingWith}
-use Rattle.patch.specs.Layout.{later, scalingField}
+use Rattle.patch.specs.Packed.{bits_in, read_in}
+use Rattle.patch.specs.Form.{scaling_with}
+use Rattle.patch.specs.Layout.{later, scaling_field}
 use Rattle.patch.proofs.unpack_scaling.Statement.{statement}
 use Rattle.patch.proofs.unpack_scaling.Tie as tie
 
@@ -37,11 +37,11 @@ whole-requires-3 : tie.Need-whole-requires-3
 whole-requires-3 c κs = search rules
 
 returns : tie.Need-returns
-unfolding scalingWith readIn bitsIn later scalingField
+unfolding scaling_with read_in bits_in later scaling_field
 returns c = cc
 
-pub unpack-scaling-spec : {M : Type 1} → statement M
-unpack-scaling-spec =
+pub unpack_scaling_spec : {M : Type 1} → statement M
+unpack_scaling_spec =
     tie.close
     (tie.spec
     add-curves

@@ -2,9 +2,9 @@
 -- nothing.
 use native.Mathlib.Nat.{add-zero}
 use borrow.Author.Rules.{rules}
-use Rattle.patch.specs.Packed.{bitsIn, readIn}
-use Rattle.patch.specs.Form.{operatorWith, envelopeWith}
-use Rattle.patch.specs.Layout.{later, envelopeField}
+use Rattle.patch.specs.Packed.{bits_in, read_in}
+use Rattle.patch.specs.Form.{operator_with, envelope_with}
+use Rattle.patch.specs.Layout.{later, envelope_field}
 use Rattle.patch.proofs.unpack_stages.Statement.{statement}
 use Rattle.patch.proofs.unpack_stages.Tie as tie
 
@@ -81,7 +81,7 @@ element-write-e-8 : tie.Need-element-write-e-8
 element-write-e-8 c = search rules
 
 returns : tie.Need-returns
-unfolding operatorWith envelopeWith readIn bitsIn later envelopeField
+unfolding operator_with envelope_with read_in bits_in later envelope_field
 returns c =
     let at-whole5 = c.before.before.before in
     let at-whole4 = at-whole5.before in
@@ -91,8 +91,8 @@ returns c =
     let at-fresh-operator = at-whole.before.before in
     rw (at-fresh-operator.fresh-operator.ensures, at-whole.whole.ensures, at-whole2.whole2.ensures, at-whole3.whole3.ensures, at-whole4.whole4.ensures, at-whole5.whole5.ensures, c.before.before.whole6.ensures, c.before.whole7.ensures, c.whole8.ensures, add-zero)
 
-pub unpack-stages-spec : {M : Type 1} → statement M
-unpack-stages-spec =
+pub unpack_stages_spec : {M : Type 1} → statement M
+unpack_stages_spec =
     tie.close
     (tie.spec
     fresh-operator-requires

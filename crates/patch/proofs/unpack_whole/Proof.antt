@@ -1,8 +1,8 @@
 -- `patch::unpack_whole` meets its contract. The parts are unpacked by their own functions, the single numbers are read
 -- by `field`. Assumes nothing.
 use borrow.Author.Rules.{rules}
-use Rattle.patch.specs.Packed.{bitsIn, readIn, unpacked}
-use Rattle.patch.specs.Form.{patchWith}
+use Rattle.patch.specs.Packed.{bits_in, read_in, unpacked}
+use Rattle.patch.specs.Form.{patch_with}
 use Rattle.patch.specs.Layout.{field_of}
 use Rattle.patch.proofs.unpack_whole.Statement.{statement}
 use Rattle.patch.proofs.unpack_whole.Tie as tie
@@ -44,11 +44,11 @@ field-requires-4 : tie.Need-field-requires-4
 field-requires-4 c κs = search rules
 
 returns : tie.Need-returns
-unfolding unpacked patchWith readIn bitsIn field_of
+unfolding unpacked patch_with read_in bits_in field_of
 returns c = cc
 
-pub unpack-whole-spec : {M : Type 1} → statement M
-unpack-whole-spec =
+pub unpack_whole_spec : {M : Type 1} → statement M
+unpack_whole_spec =
     tie.close
     (tie.spec
     unpack-operators-requires

@@ -1,7 +1,7 @@
 -- `patch_limits::name_fits` meets its contract. The tests are the table's, letter by letter. Assumes nothing.
 use mathlib.Core.Path.{sym}
 use borrow.Author.Rules.{rules}
-use Rattle.patch_limits.proofs.Within.{name-fits}
+use Rattle.patch_limits.proofs.Within.{name_fits_lem}
 use Rattle.patch_limits.proofs.name_fits.Statement.{statement}
 use Rattle.patch_limits.proofs.name_fits.Tie as tie
 
@@ -36,10 +36,10 @@ element-copy-out-result-10 : tie.Need-element-copy-out-result-10
 element-copy-out-result-10 c = search rules
 
 returns : tie.Need-returns
-returns c = sym (name-fits _)
+returns c = sym (name_fits_lem _)
 
-pub name-fits-spec : {M : Type 1} → statement M
-name-fits-spec =
+pub name_fits_spec : {M : Type 1} → statement M
+name_fits_spec =
     tie.close
     (tie.spec
     element-copy-out-result

@@ -12,5 +12,5 @@ returns : tie.Need-returns
 unfolding decimal of_bits
 returns c = c.between.ensures
 
-pub note-fits-spec : {M : Type 1} → statement M
-note-fits-spec = tie.close (tie.spec between-requires returns)
+pub note_fits_spec : {M : Type 1} → statement M
+note_fits_spec = tie.close (tie.spec between-requires returns)

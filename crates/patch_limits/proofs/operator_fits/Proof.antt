@@ -1,6 +1,6 @@
 -- `patch_limits::operator_fits` meets its contract. An operator fits where its parts do. Assumes nothing.
 use borrow.Author.Rules.{rules}
-use Rattle.patch_limits.proofs.Within.{operator-fits}
+use Rattle.patch_limits.proofs.Within.{operator_fits_lem}
 use Rattle.patch_limits.proofs.operator_fits.Statement.{statement}
 use Rattle.patch_limits.proofs.operator_fits.Tie as tie
 
@@ -16,8 +16,8 @@ scaling-fits-requires c κs = search rules
 returns : tie.Need-returns
 returns c =
     let at-start = c.before.before.before.before.before.before.before.before in
-    cc (operator-fits at-start.args.t1)
+    cc (operator_fits_lem at-start.args.t1)
 
-pub operator-fits-spec : {M : Type 1} → statement M
-operator-fits-spec =
+pub operator_fits_spec : {M : Type 1} → statement M
+operator_fits_spec =
     tie.close (tie.spec stages-fit-requires stages-fit-requires-2 scaling-fits-requires returns)

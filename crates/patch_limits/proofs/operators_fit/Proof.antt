@@ -1,7 +1,7 @@
 -- `patch_limits::operators_fit` meets its contract. Six operators, one by one. Assumes nothing.
 use borrow.Author.Rules.{rules}
-use Rattle.patch.specs.Form.{operatorAt, noOperator, scalingWith}
-use Rattle.patch.specs.Packed.{operatorsFit}
+use Rattle.patch.specs.Form.{operator_at, no_operator, scaling_with}
+use Rattle.patch.specs.Packed.{operators_fit}
 use Rattle.patch_limits.proofs.operators_fit.Statement.{statement}
 use Rattle.patch_limits.proofs.operators_fit.Tie as tie
 
@@ -42,7 +42,7 @@ operator-fits-requires-6 : tie.Need-operator-fits-requires-6
 operator-fits-requires-6 c κs = search rules
 
 returns : tie.Need-returns
-unfolding operatorsFit operatorAt noOperator scalingWith
+unfolding operators_fit operator_at no_operator scaling_with
 returns c =
     let at-operator-fits4 = c.before.before.before.before in
     let at-operator-fits3 = at-operator-fits4.before.before in
@@ -50,8 +50,8 @@ returns c =
     let at-operator-fits = at-operator-fits2.before.before in
     rw (c.operator-fits6.ensures, c.before.before.operator-fits5.ensures, at-operator-fits4.operator-fits4.ensures, at-operator-fits3.operator-fits3.ensures, at-operator-fits2.operator-fits2.ensures, at-operator-fits.operator-fits.ensures)
 
-pub operators-fit-spec : {M : Type 1} → statement M
-operators-fit-spec =
+pub operators_fit_spec : {M : Type 1} → statement M
+operators_fit_spec =
     tie.close
     (tie.spec
     array-copy-out-operator-fits

@@ -1,6 +1,6 @@
 -- `patch_limits::patch_fits` meets its contract. A patch fits where its parts do. Assumes nothing.
 use borrow.Author.Rules.{rules}
-use Rattle.patch_limits.proofs.Within.{patch-fits}
+use Rattle.patch_limits.proofs.Within.{patch_fits_lem}
 use Rattle.patch_limits.proofs.patch_fits.Statement.{statement}
 use Rattle.patch_limits.proofs.patch_fits.Tie as tie
 
@@ -22,10 +22,10 @@ name-fits-requires c κs = search rules
 returns : tie.Need-returns
 returns c =
     let at-start = c.before.before.before.before.before.before.before.before.before.before.before.before.before in
-    cc (patch-fits at-start.args.t1)
+    cc (patch_fits_lem at-start.args.t1)
 
-pub patch-fits-spec : {M : Type 1} → statement M
-patch-fits-spec =
+pub patch_fits_spec : {M : Type 1} → statement M
+patch_fits_spec =
     tie.close
     (tie.spec
     operators-fit-requires

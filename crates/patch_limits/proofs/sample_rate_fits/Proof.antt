@@ -1,6 +1,6 @@
 -- `patch_limits::sample_rate_fits` meets its contract. Assumes nothing.
 use borrow.Author.Rules.{rules}
-use Rattle.patch_limits.specs.Ranges.{sampleRateFits}
+use Rattle.patch_limits.specs.Ranges.{sample_rate_fits}
 use Rattle.numbers.specs.F32.{decimal}
 use lib.Ieee.{of_bits}
 use Rattle.patch_limits.proofs.sample_rate_fits.Statement.{statement}
@@ -10,8 +10,8 @@ between-requires : tie.Need-between-requires
 between-requires c κs = search rules
 
 returns : tie.Need-returns
-unfolding sampleRateFits decimal of_bits
+unfolding sample_rate_fits decimal of_bits
 returns c = c.between.ensures
 
-pub sample-rate-fits-spec : {M : Type 1} → statement M
-sample-rate-fits-spec = tie.close (tie.spec between-requires returns)
+pub sample_rate_fits_spec : {M : Type 1} → statement M
+sample_rate_fits_spec = tie.close (tie.spec between-requires returns)

@@ -1,7 +1,7 @@
 -- `patch_limits::stages_fit` meets its contract. The tests are the table's, stage by stage. Assumes nothing.
 use mathlib.Core.Path.{sym}
 use borrow.Author.Rules.{rules}
-use Rattle.patch_limits.proofs.Within.{stages-fit}
+use Rattle.patch_limits.proofs.Within.{stages_fit_lem}
 use Rattle.patch_limits.proofs.stages_fit.Statement.{statement}
 use Rattle.patch_limits.proofs.stages_fit.Tie as tie
 
@@ -18,10 +18,10 @@ element-copy-out-result-4 : tie.Need-element-copy-out-result-4
 element-copy-out-result-4 c = search rules
 
 returns : tie.Need-returns
-returns c = sym (stages-fit _)
+returns c = sym (stages_fit_lem _)
 
-pub stages-fit-spec : {M : Type 1} → statement M
-stages-fit-spec =
+pub stages_fit_spec : {M : Type 1} → statement M
+stages_fit_spec =
     tie.close
     (tie.spec
     element-copy-out-result

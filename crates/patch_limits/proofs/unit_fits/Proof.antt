@@ -12,5 +12,5 @@ returns : tie.Need-returns
 unfolding decimal of_bits
 returns c = c.between.ensures
 
-pub unit-fits-spec : {M : Type 1} → statement M
-unit-fits-spec = tie.close (tie.spec between-requires returns)
+pub unit_fits_spec : {M : Type 1} → statement M
+unit_fits_spec = tie.close (tie.spec between-requires returns)

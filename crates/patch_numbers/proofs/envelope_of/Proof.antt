@@ -1,7 +1,7 @@
 -- `patch_numbers::envelope_of` meets its contract. Assumes nothing.
 use native.Mathlib.Nat.{add-zero}
-use Rattle.patch.specs.Form.{envelopeWith}
-use Rattle.patch.specs.Positions.{envelopePosition}
+use Rattle.patch.specs.Form.{envelope_with}
+use Rattle.patch.specs.Positions.{envelope_position}
 use borrow.Author.Rules.{rules}
 use Rattle.patch_numbers.proofs.envelope_of.Statement.{statement}
 use Rattle.patch_numbers.proofs.envelope_of.Tie as tie
@@ -52,11 +52,11 @@ shared-slice-read-t15-2 : tie.Need-shared-slice-read-t15-2
 shared-slice-read-t15-2 c = search rules
 
 returns : tie.Need-returns
-unfolding envelopeWith envelopePosition
+unfolding envelope_with envelope_position
 returns c = rw add-zero
 
-pub envelope-of-spec : {M : Type 1} → statement M
-envelope-of-spec =
+pub envelope_of_spec : {M : Type 1} → statement M
+envelope_of_spec =
     tie.close
     (tie.spec
     shared-slice-read-t6

@@ -1,7 +1,7 @@
 -- `patch_numbers::modulations_of` meets its contract. Assumes nothing.
 use mathlib.Core.Path.{refl}
-use Rattle.patch.specs.Form.{modulationsWith}
-use Rattle.patch.specs.Positions.{lfoPosition}
+use Rattle.patch.specs.Form.{modulations_with}
+use Rattle.patch.specs.Positions.{lfo_position}
 use borrow.Author.Rules.{rules}
 use Rattle.patch_numbers.proofs.modulations_of.Statement.{statement}
 use Rattle.patch_numbers.proofs.modulations_of.Tie as tie
@@ -28,11 +28,11 @@ shared-slice-read-t15 : tie.Need-shared-slice-read-t15
 shared-slice-read-t15 c = search rules
 
 returns : tie.Need-returns
-unfolding modulationsWith lfoPosition
+unfolding modulations_with lfo_position
 returns c = refl
 
-pub modulations-of-spec : {M : Type 1} → statement M
-modulations-of-spec =
+pub modulations_of_spec : {M : Type 1} → statement M
+modulations_of_spec =
     tie.close
     (tie.spec
     shared-slice-read-t3

@@ -1,6 +1,6 @@
 -- `patch_numbers::name_of` meets its contract. Assumes nothing.
 use mathlib.Core.Path.{refl}
-use Rattle.patch.specs.Form.{nameWith}
+use Rattle.patch.specs.Form.{name_with}
 use Rattle.patch.specs.Positions.{position}
 use borrow.Author.Rules.{rules}
 use Rattle.patch_numbers.proofs.name_of.Statement.{statement}
@@ -37,11 +37,11 @@ shared-slice-read-t21 : tie.Need-shared-slice-read-t21
 shared-slice-read-t21 c = search rules
 
 returns : tie.Need-returns
-unfolding nameWith position
+unfolding name_with position
 returns c = refl
 
-pub name-of-spec : {M : Type 1} → statement M
-name-of-spec =
+pub name_of_spec : {M : Type 1} → statement M
+name_of_spec =
     tie.close
     (tie.spec
     shared-slice-read-t3

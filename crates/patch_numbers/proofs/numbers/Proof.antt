@@ -5,22 +5,22 @@ use mathlib.Core.List.{List, ◌++◌}
 use Prim.Native.Nat.{ℕ, ◌-◌, ◌*◌, ◌≤◌}
 use lib.ListN.{length, drop, replicate}
 use lib.Seq.{paste}
-use Rattle.patch.specs.Form.{operatorAt, noOperator, scalingWith}
-use Rattle.lent_bytes.proofs.Blocks.{blocks, next-block}
-use Rattle.patch_numbers.proofs.RoundTrip.{operatorBlock, block-length, put-length, all-put}
+use Rattle.patch.specs.Form.{operator_at, no_operator, scaling_with}
+use Rattle.lent_bytes.proofs.Blocks.{blocks, next_block}
+use Rattle.patch_numbers.proofs.RoundTrip.{operator_block, block_length, put_length, all_put}
 use borrow.Author.Rules.{rules}
 use native.Mathlib.Omega.{arith}
 use Rattle.patch_numbers.proofs.numbers.Statement.{statement}
 use Rattle.patch_numbers.proofs.numbers.Tie as tie
 
 abbrev invariant-loop : tie.invariant-loop
-invariant-loop patch op out₀ i₀ out i = (i ≤ 6) × (out ≡ blocks (operatorBlock patch) i ++ drop (21 * i) (replicate 155 0))
+invariant-loop patch op out₀ i₀ out i = (i ≤ 6) × (out ≡ blocks (operator_block patch) i ++ drop (21 * i) (replicate 155 0))
 
 abbrev decreases-loop : tie.decreases-loop
 decreases-loop patch op out₀ i₀ out i = 6 - i
 
 long : (c : tie.At-loop invariant-loop decreases-loop) → length c.loop.out ≡ 155
-long c = put-length c.before.before.args.patch _ _ c.loop.invariant.0 c.loop.invariant.1
+long c = put_length c.before.before.args.patch _ _ c.loop.invariant.0 c.loop.invariant.1
 
 loop-holds : tie.Need-loop-init invariant-loop decreases-loop
 unfolding blocks
@@ -54,13 +54,13 @@ loop-less : tie.Need-loop-smaller invariant-loop decreases-loop
 loop-less c = omega arith
 
 loop-again : tie.Need-loop-preserved invariant-loop decreases-loop
-unfolding operatorAt noOperator scalingWith
+unfolding operator_at no_operator scaling_with
 loop-again c =
     let at-operator-numbers = c.before.before.before.before in
     let at-loop = at-operator-numbers.before.before.before in
     let p = at-loop.before.before.args.patch in (
       omega arith,
-      next-block (operatorBlock p) 21 (block-length p) (replicate 155 0) _ _ at-loop.loop.i at-loop.loop.invariant.1
+      next_block (operator_block p) 21 (block_length p) (replicate 155 0) _ _ at-loop.loop.i at-loop.loop.invariant.1
           (c.before.put.ensures
           ∙ ap (λ (b : List ℕ). paste at-loop.loop.out (21 * at-loop.loop.i) b (length b))
           at-operator-numbers.operator-numbers.ensures),
@@ -82,12 +82,12 @@ returns : tie.Need-returns invariant-loop decreases-loop
 returns c =
     let at-shared-numbers = c.before.before.before.before in
     let at-loop = at-shared-numbers.before.before in
-    all-put at-loop.before.before.args.patch at-loop.loop.i _ _ (omega arith) at-loop.loop.invariant.1
+    all_put at-loop.before.before.args.patch at-loop.loop.i _ _ (omega arith) at-loop.loop.invariant.1
     (c.before.put2.ensures
     ∙ ap (λ (b : List ℕ). paste at-loop.loop.out 126 b (length b)) at-shared-numbers.shared-numbers.ensures)
 
-pub numbers-spec : {M : Type 1} → statement M
-numbers-spec =
+pub numbers_spec : {M : Type 1} → statement M
+numbers_spec =
     tie.close
     (tie.spec
     invariant-loop

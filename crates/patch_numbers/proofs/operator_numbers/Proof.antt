@@ -1,8 +1,8 @@
 -- `patch_numbers::operator_numbers` meets its contract. Assumes nothing.
 use mathlib.Core.Path.{refl}
-use Rattle.patch.specs.Layout.{envelopeNames, scalingNames, operatorNames}
-use Rattle.patch.specs.Form.{envelopeNumber, scalingNumber, operatorNumber}
-use Rattle.patch_numbers.specs.Numbers.{operatorNumbers}
+use Rattle.patch.specs.Layout.{envelope_names, scaling_names, operator_names}
+use Rattle.patch.specs.Form.{envelope_number, scaling_number, operator_number}
+use Rattle.patch_numbers.specs.Numbers.{operator_numbers}
 use borrow.Author.Rules.{rules}
 use Rattle.patch_numbers.proofs.operator_numbers.Statement.{statement}
 use Rattle.patch_numbers.proofs.operator_numbers.Tie as tie
@@ -32,11 +32,11 @@ array-read-t29 : tie.Need-array-read-t29
 array-read-t29 c = search rules
 
 returns : tie.Need-returns
-unfolding operatorNumbers operatorNames envelopeNames scalingNames operatorNumber envelopeNumber scalingNumber
+unfolding operator_numbers operator_names envelope_names scaling_names operator_number envelope_number scaling_number
 returns c = refl
 
-pub operator-numbers-spec : {M : Type 1} → statement M
-operator-numbers-spec =
+pub operator_numbers_spec : {M : Type 1} → statement M
+operator_numbers_spec =
     tie.close
     (tie.spec
     array-read-t8

@@ -1,6 +1,6 @@
 -- `patch_numbers::operator_of` meets its contract. Assumes nothing.
-use Rattle.patch.specs.Form.{operatorWith}
-use Rattle.patch.specs.Positions.{operatorPosition}
+use Rattle.patch.specs.Form.{operator_with}
+use Rattle.patch.specs.Positions.{operator_position}
 use borrow.Author.Rules.{rules}
 use Rattle.patch_numbers.proofs.operator_of.Statement.{statement}
 use Rattle.patch_numbers.proofs.operator_of.Tie as tie
@@ -60,11 +60,11 @@ shared-slice-read-t28 : tie.Need-shared-slice-read-t28
 shared-slice-read-t28 c = search rules
 
 returns : tie.Need-returns
-unfolding operatorWith operatorPosition
+unfolding operator_with operator_position
 returns c = cc
 
-pub operator-of-spec : {M : Type 1} → statement M
-operator-of-spec =
+pub operator_of_spec : {M : Type 1} → statement M
+operator_of_spec =
     tie.close
     (tie.spec
     envelope-of-requires

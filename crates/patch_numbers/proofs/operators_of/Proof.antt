@@ -1,5 +1,5 @@
 -- `patch_numbers::operators_of` meets its contract. Operator k's numbers begin at 21 k. Assumes nothing.
-use Rattle.patch.specs.Form.{patchWith}
+use Rattle.patch.specs.Form.{patch_with}
 use Rattle.patch.specs.Positions.{position}
 use Rattle.patch_numbers.specs.Numbers.{patch_of}
 use borrow.Author.Rules.{rules}
@@ -25,11 +25,11 @@ operator-of-requires-6 : tie.Need-operator-of-requires-6
 operator-of-requires-6 c κs = search rules
 
 returns : tie.Need-returns
-unfolding patch_of patchWith position
+unfolding patch_of patch_with position
 returns c = cc
 
-pub operators-of-spec : {M : Type 1} → statement M
-operators-of-spec =
+pub operators_of_spec : {M : Type 1} → statement M
+operators_of_spec =
     tie.close
     (tie.spec
     operator-of-requires

@@ -1,5 +1,5 @@
 -- `patch_numbers::patch_of` meets its contract. The parts are made by their own functions. Assumes nothing.
-use Rattle.patch.specs.Form.{patchWith}
+use Rattle.patch.specs.Form.{patch_with}
 use Rattle.patch.specs.Positions.{position}
 use Rattle.patch_numbers.specs.Numbers.{patch_of}
 use borrow.Author.Rules.{rules}
@@ -31,11 +31,11 @@ element-copy-out-t25 : tie.Need-element-copy-out-t25
 element-copy-out-t25 c = search rules
 
 returns : tie.Need-returns
-unfolding patch_of patchWith position
+unfolding patch_of patch_with position
 returns c = cc
 
-pub patch-of-spec : {M : Type 1} → statement M
-patch-of-spec =
+pub patch_of_spec : {M : Type 1} → statement M
+patch_of_spec =
     tie.close
     (tie.spec
     operators-of-requires

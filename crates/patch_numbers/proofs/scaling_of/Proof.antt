@@ -1,7 +1,7 @@
 -- `patch_numbers::scaling_of` meets its contract. Assumes nothing.
 use mathlib.Core.Path.{refl}
-use Rattle.patch.specs.Form.{scalingWith}
-use Rattle.patch.specs.Positions.{scalingPosition}
+use Rattle.patch.specs.Form.{scaling_with}
+use Rattle.patch.specs.Positions.{scaling_position}
 use borrow.Author.Rules.{rules}
 use Rattle.patch_numbers.proofs.scaling_of.Statement.{statement}
 use Rattle.patch_numbers.proofs.scaling_of.Tie as tie
@@ -37,11 +37,11 @@ shared-slice-read-t17 : tie.Need-shared-slice-read-t17
 shared-slice-read-t17 c = search rules
 
 returns : tie.Need-returns
-unfolding scalingWith scalingPosition
+unfolding scaling_with scaling_position
 returns c = refl
 
-pub scaling-of-spec : {M : Type 1} → statement M
-scaling-of-spec =
+pub scaling_of_spec : {M : Type 1} → statement M
+scaling_of_spec =
     tie.close
     (tie.spec
     add-t3

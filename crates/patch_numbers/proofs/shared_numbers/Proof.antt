@@ -1,8 +1,8 @@
 -- `patch_numbers::shared_numbers` meets its contract. Assumes nothing.
 use mathlib.Core.Path.{refl}
-use Rattle.patch.specs.Layout.{envelopeNames, lfoNames, letters, sharedNames}
-use Rattle.patch.specs.Form.{envelopeNumber, lfoNumber, number_of}
-use Rattle.patch_numbers.specs.Numbers.{sharedNumbers}
+use Rattle.patch.specs.Layout.{envelope_names, lfo_names, letters, shared_names}
+use Rattle.patch.specs.Form.{envelope_number, lfo_number, number_of}
+use Rattle.patch_numbers.specs.Numbers.{shared_numbers}
 use borrow.Author.Rules.{rules}
 use Rattle.patch_numbers.proofs.shared_numbers.Statement.{statement}
 use Rattle.patch_numbers.proofs.shared_numbers.Tie as tie
@@ -62,11 +62,11 @@ array-read-t60 : tie.Need-array-read-t60
 array-read-t60 c = search rules
 
 returns : tie.Need-returns
-unfolding sharedNumbers sharedNames envelopeNames lfoNames letters number_of envelopeNumber lfoNumber
+unfolding shared_numbers shared_names envelope_names lfo_names letters number_of envelope_number lfo_number
 returns c = refl
 
-pub shared-numbers-spec : {M : Type 1} → statement M
-shared-numbers-spec =
+pub shared_numbers_spec : {M : Type 1} → statement M
+shared_numbers_spec =
     tie.close
     (tie.spec
     array-read-t9

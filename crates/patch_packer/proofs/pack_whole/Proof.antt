@@ -4,19 +4,19 @@ use mathlib.Core.Path.{◌≡◌, refl}
 use Prim.Native.Nat.{◌-◌, ◌≤◌}
 use native.Mathlib.Omega.{arith}
 use borrow.Author.Rules.{rules}
-use Rattle.patch.specs.Form.{operatorAt, noOperator, scalingWith}
-use Rattle.patch_packer.proofs.Bytes.{operator-fits, firstBlocks, next-block, pasted}
+use Rattle.patch.specs.Form.{operator_at, no_operator, scaling_with}
+use Rattle.patch_packer.proofs.Bytes.{operator_fits_lem, first_blocks, next_block, pasted}
 use Rattle.patch_packer.proofs.pack_whole.Statement.{statement}
 use Rattle.patch_packer.proofs.pack_whole.Tie as tie
 
 abbrev invariant-loop : tie.invariant-loop
-invariant-loop p op out₀ i₀ out i = (i ≤ 6) × (out ≡ firstBlocks op i)
+invariant-loop p op out₀ i₀ out i = (i ≤ 6) × (out ≡ first_blocks op i)
 
 abbrev decreases-loop : tie.decreases-loop
 decreases-loop p op out₀ i₀ out i = 6 - i
 
 loop-holds : tie.Need-loop-init invariant-loop decreases-loop
-unfolding firstBlocks
+unfolding first_blocks
 loop-holds c = (omega arith, refl)
 
 mul-put-operator : tie.Need-overflow-mul-put-operator invariant-loop decreases-loop
@@ -29,11 +29,11 @@ array-copy-out-put-operator : tie.Need-array-copy-out-put-operator invariant-loo
 array-copy-out-put-operator c = omega arith
 
 put-operator-requires : tie.Need-put-operator-requires invariant-loop decreases-loop
-unfolding operatorAt noOperator scalingWith
+unfolding operator_at no_operator scaling_with
 put-operator-requires c κs =
     let at-loop = c.before.before.before in
     let at_pre = at-loop.before.before in
-    (omega arith, operator-fits _ at_pre.requires at-loop.loop.i (omega arith))
+    (omega arith, operator_fits_lem _ at_pre.requires at-loop.loop.i (omega arith))
 
 add-i : tie.Need-overflow-add-i invariant-loop decreases-loop
 add-i c = omega arith
@@ -42,12 +42,12 @@ loop-less : tie.Need-loop-smaller invariant-loop decreases-loop
 loop-less c = omega arith
 
 loop-again : tie.Need-loop-preserved invariant-loop decreases-loop
-unfolding operatorAt noOperator scalingWith
+unfolding operator_at no_operator scaling_with
 loop-again c =
     let at-loop = c.before.before.before.before in
     let at-start = at-loop.before.before in (
       omega arith,
-      next-block at-start.args.p.op at-loop.loop.i _ _ at-loop.loop.invariant.1
+      next_block at-start.args.p.op at-loop.loop.i _ _ at-loop.loop.invariant.1
           c.put-operator.ensures,
     )
 
@@ -61,8 +61,8 @@ returns c =
     let six : at-loop.loop.i ≡ 6 = omega arith in
     pasted at-start.args.p _ _ _ six at-loop.loop.invariant.1 c.put-shared.ensures
 
-pub pack-whole-spec : {M : Type 1} → statement M
-pack-whole-spec =
+pub pack_whole_spec : {M : Type 1} → statement M
+pack_whole_spec =
     tie.close
     (tie.spec
     invariant-loop

@@ -5,7 +5,7 @@ use Prim.Native.Nat.{ℕ}
 use borrow.Author.Rules.{rules}
 use lib.ListN.{length}
 use lib.Seq.{paste}
-use Rattle.patch_packer.specs.Packing.{operatorBytes, bytes_of}
+use Rattle.patch_packer.specs.Packing.{operator_bytes, bytes_of}
 use Rattle.patch_packer.proofs.put_operator.Statement.{statement}
 use Rattle.patch_packer.proofs.put_operator.Tie as tie
 
@@ -19,13 +19,13 @@ put-requires : tie.Need-put-requires
 put-requires c κs = search rules
 
 returns : tie.Need-returns
-unfolding operatorBytes bytes_of
+unfolding operator_bytes bytes_of
 returns c =
     let at-operator-bytes = c.before.before.before in
     let at-start = at-operator-bytes.before in
     c.put.ensures ∙ ap (λ (b : List ℕ). paste at-start.args.out.now at-start.args.at b (length b))
     at-operator-bytes.operator-bytes.ensures
 
-pub put-operator-spec : {M : Type 1} → statement M
-put-operator-spec =
+pub put_operator_spec : {M : Type 1} → statement M
+put_operator_spec =
     tie.close (tie.spec operator-bytes-requires slice-aggregate-put put-requires returns)

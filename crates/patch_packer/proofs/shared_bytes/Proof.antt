@@ -3,7 +3,7 @@
 use mathlib.Core.Path.{sym}
 use native.Mathlib.Omega.{arith}
 use borrow.Author.Rules.{rules}
-use Rattle.patch_packer.proofs.Bytes.{shared-low, shared-bytes}
+use Rattle.patch_packer.proofs.Bytes.{shared_low, shared_bytes_lem}
 use Rattle.patch_packer.proofs.shared_bytes.Statement.{statement}
 use Rattle.patch_packer.proofs.shared_bytes.Tie as tie
 
@@ -34,32 +34,32 @@ array-read-t30 c = search rules
 mul-t31 : tie.Need-overflow-mul-t31
 mul-t31 c =
     let at_pre = c.before.before.before.before.before.before in
-    omega (arith, shared-low _ at_pre.requires)
+    omega (arith, shared_low _ at_pre.requires)
 
 add-t32 : tie.Need-overflow-add-t32
 add-t32 c =
     let at_pre = c.before.before.before.before.before.before.before in
-    omega (arith, shared-low _ at_pre.requires)
+    omega (arith, shared_low _ at_pre.requires)
 
 mul-t33 : tie.Need-overflow-mul-t33
 mul-t33 c =
     let at_pre = c.before.before.before.before.before.before.before.before in
-    omega (arith, shared-low _ at_pre.requires)
+    omega (arith, shared_low _ at_pre.requires)
 
 add-t34 : tie.Need-overflow-add-t34
 add-t34 c =
     let at_pre = c.before.before.before.before.before.before.before.before.before in
-    omega (arith, shared-low _ at_pre.requires)
+    omega (arith, shared_low _ at_pre.requires)
 
 mul-t35 : tie.Need-overflow-mul-t35
 mul-t35 c =
     let at_pre = c.before.before.before.before.before.before.before.before.before.before in
-    omega (arith, shared-low _ at_pre.requires)
+    omega (arith, shared_low _ at_pre.requires)
 
 add-t36 : tie.Need-overflow-add-t36
 add-t36 c =
     let at_pre = c.before.before.before.before.before.before.before.before.before.before in
-    omega (arith, shared-low _ at_pre.requires)
+    omega (arith, shared_low _ at_pre.requires)
 
 array-read-t39 : tie.Need-array-read-t39
 array-read-t39 c = search rules
@@ -94,10 +94,10 @@ array-read-t66 c = search rules
 returns : tie.Need-returns
 returns c =
     let at_pre = c.before.before.before.before.before.before.before.before.before.before in
-    sym (shared-bytes _ at_pre.requires)
+    sym (shared_bytes_lem _ at_pre.requires)
 
-pub shared-bytes-spec : {M : Type 1} → statement M
-shared-bytes-spec =
+pub shared_bytes_spec : {M : Type 1} → statement M
+shared_bytes_spec =
     tie.close
     (tie.spec
     array-read-t9

@@ -1,6 +1,6 @@
 -- `plan::main` meets its contract. Assumes nothing.
 use mathlib.Core.Path.{refl}
-use Rattle.plan_text.proofs.Pieces.{printed-within, printed-part}
+use Rattle.plan_text.proofs.Pieces.{printed_within, printed_part}
 use borrow.Author.Rules.{rules}
 use Rattle.plan.proofs.main.Statement.{statement}
 use Rattle.plan.proofs.main.Tie as tie
@@ -21,10 +21,10 @@ print-requires : tie.Need-print-requires
 print-requires c κs = search rules
 
 array-share-prefix-out : tie.Need-array-share-prefix-out
-array-share-prefix-out c = printed-within _ _ _ _ refl c.print.ensures
+array-share-prefix-out c = printed_within _ _ _ _ refl c.print.ensures
 
 slice-aggregate-write : tie.Need-slice-aggregate-write
-slice-aggregate-write c = printed-part _ _ _ _ refl c.before.print.ensures
+slice-aggregate-write c = printed_part _ _ _ _ refl c.before.print.ensures
 
 write-requires : tie.Need-write-requires
 write-requires c κs = search rules

@@ -12,5 +12,5 @@ returns : tie.Need-returns
 unfolding digit
 returns c = refl
 
-pub digit-of-spec : {M : Type 1} → statement M
-digit-of-spec = tie.close (tie.spec add-result returns)
+pub digit_of_spec : {M : Type 1} → statement M
+digit_of_spec = tie.close (tie.spec add-result returns)

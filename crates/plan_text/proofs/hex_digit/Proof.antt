@@ -1,6 +1,6 @@
 -- `plan_text::hex_digit` meets its contract. Assumes nothing.
 use borrow.Author.Tests.{lt-ltb, le-ltb}
-use Rattle.plan_text.specs.Text.{hexDigit}
+use Rattle.plan_text.specs.Text.{hex_digit}
 use borrow.Author.Rules.{rules}
 use Rattle.plan_text.proofs.hex_digit.Statement.{statement}
 use Rattle.plan_text.proofs.hex_digit.Tie as tie
@@ -9,15 +9,15 @@ add-result : tie.Need-overflow-add-result
 add-result c = search rules
 
 returns : tie.Need-returns
-unfolding hexDigit
+unfolding hex_digit
 returns c = simp (lt-ltb _ _ c.if1.true)
 
 add-result-2 : tie.Need-overflow-add-result-2
 add-result-2 c = search rules
 
 returns-2 : tie.Need-returns-2
-unfolding hexDigit
+unfolding hex_digit
 returns-2 c = simp (le-ltb _ _ c.if1.false)
 
-pub hex-digit-spec : {M : Type 1} → statement M
-hex-digit-spec = tie.close (tie.spec add-result returns add-result-2 returns-2)
+pub hex_digit_spec : {M : Type 1} → statement M
+hex_digit_spec = tie.close (tie.spec add-result returns add-result-2 returns-2)

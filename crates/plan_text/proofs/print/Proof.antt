@@ -4,8 +4,8 @@ use native.Mathlib.Omega.{arith}
 use lib.ListN.{length}
 use Rattle.algorithms.specs.Plan.{planned}
 use Rattle.algorithms.specs.Table.{six}
-use Rattle.plan_text.proofs.Pieces.{then, row-size, count-size, row-most, calls-most, refusal-printed}
-use Rattle.plan_text.proofs.Pieces.{plan-printed}
+use Rattle.plan_text.proofs.Pieces.{then, row_size, count_size, row_most, calls_most, refusal_printed}
+use Rattle.plan_text.proofs.Pieces.{plan_printed}
 use borrow.Author.Rules.{rules}
 use Rattle.plan_text.proofs.print.Statement.{statement}
 use Rattle.plan_text.proofs.print.Tie as tie
@@ -28,13 +28,13 @@ put-refusal-requires c κs = search rules
 returns : tie.Need-returns
 returns c =
     let far = c.before.before.before.before in
-    refusal-printed _ _ (compiled (far)) _ _ _ c.before.before.if1.true c.put-refusal.ensures
+    refusal_printed _ _ (compiled (far)) _ _ _ c.before.before.if1.true c.put-refusal.ensures
 
 put-row-requires : tie.Need-put-row-requires
 put-row-requires c κs =
     let far = c.before.before.before.before in
     let at-start = far.before.before.before in
-    row-most at-start.args.bytes.now _ (compiled (far)) c.before.before.if1.false
+    row_most at-start.args.bytes.now _ (compiled (far)) c.before.before.if1.false
 
 put-count-requires : tie.Need-put-count-requires
 put-count-requires c κs =
@@ -45,8 +45,8 @@ put-count-requires c κs =
     omega (
       arith,
       c.before.put-row.ensures.next_place,
-      row-size bytes,
-      row-most bytes _ (compiled (far))
+      row_size bytes,
+      row_most bytes _ (compiled (far))
           at-if1.if1.false,
     )
 
@@ -58,19 +58,19 @@ put-calls-requires c κs =
     let at-start = at-compile-row.before.before.before in
     let bytes = at-start.args.bytes.now in
     let p = at-compile-row.compile-row.result in
-    (omega (arith, at-put-row.put-row.ensures.next_place, c.before.put_count.ensures.next_place, row-size bytes, count-size p.plan.count, row-most bytes p (compiled (at-compile-row)) at-if1.if1.false), calls-most bytes p (compiled (at-compile-row)) at-if1.if1.false)
+    (omega (arith, at-put-row.put-row.ensures.next_place, c.before.put_count.ensures.next_place, row_size bytes, count_size p.plan.count, row_most bytes p (compiled (at-compile-row)) at-if1.if1.false), calls_most bytes p (compiled (at-compile-row)) at-if1.if1.false)
 
 returns-2 : tie.Need-returns-2
 returns-2 c =
     let at-put-row = c.before.before.before.before in
     let at-if1 = at-put-row.before.before.before in
     let far = at-if1.before.before in
-    plan-printed _ _ (compiled (far)) _ _ _ at-if1.if1.false
+    plan_printed _ _ (compiled (far)) _ _ _ at-if1.if1.false
     (then _ _ _ _ _ _ _ _ at-put-row.put-row.ensures
     (then _ _ _ _ _ _ _ _ c.before.before.put_count.ensures c.put-calls.ensures))
 
-pub print-spec : {M : Type 1} → statement M
-print-spec =
+pub print_spec : {M : Type 1} → statement M
+print_spec =
     tie.close
     (tie.spec
     six-bytes-requires

@@ -5,7 +5,7 @@ use Prim.Native.Nat.{◌≤◌, ◌+◌, ◌-◌}
 use native.Mathlib.Nat.{add-zero}
 use lib.ListN.{length, drop}
 use lib.Seq.{sets, drop-length}
-use Rattle.plan_text.proofs.Pieces.{put-more}
+use Rattle.plan_text.proofs.Pieces.{put_more}
 use native.Mathlib.Omega.{arith}
 use Rattle.plan_text.proofs.put.Statement.{statement}
 use Rattle.plan_text.proofs.put.Tie as tie
@@ -37,7 +37,7 @@ loop-less c = omega arith
 loop-again : tie.Need-loop-preserved invariant-loop decreases-loop
 loop-again c =
     let at = c.before.before in
-    (omega arith, sym (put-more at.loop.out at.before.args.piece.now at.before.args.at at.loop.k c.before.loop-test.true) ∙ at.loop.invariant.1)
+    (omega arith, sym (put_more at.loop.out at.before.args.piece.now at.before.args.at at.loop.k c.before.loop-test.true) ∙ at.loop.invariant.1)
 
 add-result : tie.Need-overflow-add-result invariant-loop decreases-loop
 add-result c = omega arith

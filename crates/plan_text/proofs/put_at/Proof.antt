@@ -1,7 +1,7 @@
 -- `plan_text::put_at` meets its contract. Assumes nothing.
 use borrow.Author.Tests.{eq-eqb, ne_eqb}
 use Rattle.plan_text.proofs.Pieces.{then}
-use Rattle.plan_text.specs.Text.{atText}
+use Rattle.plan_text.specs.Text.{at_text}
 use borrow.Author.Rules.{rules}
 use Rattle.plan_text.proofs.put_at.Statement.{statement}
 use Rattle.plan_text.proofs.put_at.Tie as tie
@@ -13,7 +13,7 @@ put-requires : tie.Need-put-requires
 put-requires c κs = search rules
 
 returns : tie.Need-returns
-unfolding atText
+unfolding at_text
 returns c =
     let at-if1 = c.before.before.before in
     rw (eq-eqb _ 2 at-if1.if1.true) c.put.ensures
@@ -34,7 +34,7 @@ put-requires-3 : tie.Need-put-requires-3
 put-requires-3 c κs = search rules
 
 returns-2 : tie.Need-returns-2
-unfolding atText
+unfolding at_text
 returns-2 c =
     let at-digit-of = c.before.before.before in
     let at-put2 = at-digit-of.before in
@@ -42,8 +42,8 @@ returns-2 c =
     rw (ne_eqb _ 2 at-if1.if1.false)
     (then _ _ _ _ _ _ _ _ at-put2.put2.ensures (rw at-digit-of.digit-of.ensures at c.put3.ensures))
 
-pub put-at-spec : {M : Type 1} → statement M
-put-at-spec =
+pub put_at_spec : {M : Type 1} → statement M
+put_at_spec =
     tie.close
     (tie.spec
     slice-aggregate-put

@@ -3,8 +3,8 @@ use mathlib.Core.Path.{◌≡◌, refl}
 use Prim.Native.Nat.{◌≤◌, ◌+◌, ◌-◌, ◌*◌}
 use lib.ListN.{length, take}
 use lib.Seq.{take_all}
-use Rattle.plan_text.specs.Text.{Written, bytesText}
-use Rattle.plan_text.proofs.Pieces.{then, bytes-more}
+use Rattle.plan_text.specs.Text.{Written, bytes_text}
+use Rattle.plan_text.proofs.Pieces.{then, bytes_more}
 use borrow.Author.Rules.{rules}
 use native.Mathlib.Omega.{arith}
 use Rattle.plan_text.proofs.put_bytes.Statement.{statement}
@@ -12,13 +12,13 @@ use Rattle.plan_text.proofs.put_bytes.Tie as tie
 
 abbrev invariant-loop : tie.invariant-loop
 invariant-loop out₀ at bytes place₀ k₀ out place k =
-    (k ≤ length bytes) × (place ≡ at + 3 * k) × Written out₀ at (bytesText (take k bytes)) out place
+    (k ≤ length bytes) × (place ≡ at + 3 * k) × Written out₀ at (bytes_text (take k bytes)) out place
 
 abbrev decreases-loop : tie.decreases-loop
 decreases-loop out₀ at bytes place₀ k₀ out place k = length bytes - k
 
 loop-holds : tie.Need-loop-init invariant-loop decreases-loop
-unfolding bytesText
+unfolding bytes_text
 loop-holds c = (omega arith, omega arith, record { next_place = omega arith; buffer = refl })
 
 shared-slice-read-hex-digit : tie.Need-shared-slice-read-hex-digit invariant-loop decreases-loop
@@ -55,7 +55,7 @@ loop-again c =
       omega arith,
       omega (arith, put.next_place),
       rw
-          (bytes-more at.before.before.args.bytes.now at.loop.k at-loop-test.loop-test.true)
+          (bytes_more at.before.before.args.bytes.now at.loop.k at-loop-test.loop-test.true)
           (then _ _ _ _ _ _ _ _ at.loop.invariant.2 put),
     )
 
@@ -67,8 +67,8 @@ returns c =
     let t : take at.loop.k l ≡ l = take_all at.loop.k l (omega arith) in
     rw t at at.loop.invariant.2
 
-pub put-bytes-spec : {M : Type 1} → statement M
-put-bytes-spec =
+pub put_bytes_spec : {M : Type 1} → statement M
+put_bytes_spec =
     tie.close
     (tie.spec
     invariant-loop

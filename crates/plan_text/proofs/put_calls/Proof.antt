@@ -2,16 +2,16 @@
 use mathlib.Core.Path.{◌≡◌, refl}
 use Prim.Native.Nat.{◌≤◌, ◌<◌, ◌+◌, ◌-◌, ◌*◌}
 use lib.ListN.{length, get_or, take, length-map}
-use Rattle.algorithms.specs.Plan.{noCall}
-use Rattle.plan_text.specs.Text.{Written, callsText}
-use Rattle.plan_text.proofs.Pieces.{then, calls-more, call-size}
+use Rattle.algorithms.specs.Plan.{no_call}
+use Rattle.plan_text.specs.Text.{Written, calls_text}
+use Rattle.plan_text.proofs.Pieces.{then, calls_more, call_size}
 use native.Mathlib.Omega.{arith}
 use Rattle.plan_text.proofs.put_calls.Statement.{statement}
 use Rattle.plan_text.proofs.put_calls.Tie as tie
 
 abbrev invariant-loop : tie.invariant-loop
 invariant-loop out₀ at plan count place₀ k₀ out place k =
-    (k ≤ count) × (place ≤ at + 21 * k) × Written out₀ at (callsText (take k plan.calls)) out place
+    (k ≤ count) × (place ≤ at + 21 * k) × Written out₀ at (calls_text (take k plan.calls)) out place
 
 abbrev decreases-loop : tie.decreases-loop
 decreases-loop out₀ at plan count place₀ k₀ out place k = count - k
@@ -24,7 +24,7 @@ cast-count : tie.Need-overflow-cast-count invariant-loop decreases-loop
 cast-count c = omega arith
 
 loop-holds : tie.Need-loop-init invariant-loop decreases-loop
-unfolding callsText
+unfolding calls_text
 loop-holds c = (omega arith, omega arith, record { next_place = omega arith; buffer = refl })
 
 mul-c : tie.Need-overflow-mul-c invariant-loop decreases-loop
@@ -48,7 +48,7 @@ loop-again c =
     let start = at.before in
     let h : at.loop.k < length start.args.t3.calls = omega (arith, long start) in
     let put = c.put-call.ensures in
-    (omega arith, omega (arith, put.next_place, call-size (get_or start.args.t3.calls at.loop.k noCall)), rw (calls-more start.args.t3.calls at.loop.k h) (then _ _ _ _ _ _ _ _ at.loop.invariant.2 put))
+    (omega arith, omega (arith, put.next_place, call_size (get_or start.args.t3.calls at.loop.k no_call)), rw (calls_more start.args.t3.calls at.loop.k h) (then _ _ _ _ _ _ _ _ at.loop.invariant.2 put))
 
 returns : tie.Need-returns invariant-loop decreases-loop
 returns c =
@@ -56,8 +56,8 @@ returns c =
     let e : at.loop.k ≡ at.before.args.t3.count = omega arith in
     rw e at at.loop.invariant.2
 
-pub put-calls-spec : {M : Type 1} → statement M
-put-calls-spec =
+pub put_calls_spec : {M : Type 1} → statement M
+put_calls_spec =
     tie.close
     (tie.spec
     invariant-loop

@@ -22,7 +22,7 @@ returns c =
     let at-digit-of = at-digit-of2.before in
     rw (sym at-digit-of.digit-of.ensures, sym at-digit-of2.digit-of2.ensures) c.put.ensures
 
-pub put-numbers-spec : {M : Type 1} → statement M
-put-numbers-spec =
+pub put_numbers_spec : {M : Type 1} → statement M
+put_numbers_spec =
     tie.close
     (tie.spec digit-of-requires digit-of-requires-2 slice-aggregate-put put-requires returns)

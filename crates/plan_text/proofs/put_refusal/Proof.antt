@@ -1,6 +1,6 @@
 -- `plan_text::put_refusal` meets its contract. Assumes nothing.
 use Rattle.plan_text.proofs.Pieces.{then}
-use Rattle.plan_text.specs.Text.{refusalText}
+use Rattle.plan_text.specs.Text.{refusal_text}
 use borrow.Author.Rules.{rules}
 use Rattle.plan_text.proofs.put_refusal.Statement.{statement}
 use Rattle.plan_text.proofs.put_refusal.Tie as tie
@@ -24,7 +24,7 @@ put-at-requires : tie.Need-put-at-requires
 put-at-requires c κs = search rules
 
 returns : tie.Need-returns
-unfolding refusalText
+unfolding refusal_text
 returns c =
     let at-digit-of = c.before.before.before.before.before in
     let at-put = at-digit-of.before in
@@ -32,8 +32,8 @@ returns c =
     (then _ _ _ _ _ _ _ _ (rw at-digit-of.digit-of.ensures at c.before.before.put2.ensures)
     c.put-at.ensures)
 
-pub put-refusal-spec : {M : Type 1} → statement M
-put-refusal-spec =
+pub put_refusal_spec : {M : Type 1} → statement M
+put_refusal_spec =
     tie.close
     (tie.spec
     slice-aggregate-put

@@ -1,7 +1,7 @@
 -- `plan_text::put_row` meets its contract. Assumes nothing.
 use native.Mathlib.Omega.{arith}
-use Rattle.plan_text.specs.Text.{rowText}
-use Rattle.plan_text.proofs.Pieces.{then, bytes-size}
+use Rattle.plan_text.specs.Text.{row_text}
+use Rattle.plan_text.proofs.Pieces.{then, bytes_size}
 use borrow.Author.Rules.{rules}
 use Rattle.plan_text.proofs.put_row.Statement.{statement}
 use Rattle.plan_text.proofs.put_row.Tie as tie
@@ -26,21 +26,21 @@ put-requires-2 c κs =
       arith,
       at-put.put.ensures.next_place,
       c.before.before.put-bytes.ensures.next_place,
-      bytes-size
+      bytes_size
           at-start.args.bytes.now,
       at-start.requires,
     )
 
 returns : tie.Need-returns
-unfolding rowText
+unfolding row_text
 returns c =
     let at-put-bytes = c.before.before.before in
     let at-put = at-put-bytes.before.before in
     then _ _ _ _ _ _ _ _ at-put.put.ensures
     (then _ _ _ _ _ _ _ _ at-put-bytes.put-bytes.ensures c.put2.ensures)
 
-pub put-row-spec : {M : Type 1} → statement M
-put-row-spec =
+pub put_row_spec : {M : Type 1} → statement M
+put_row_spec =
     tie.close
     (tie.spec
     slice-aggregate-put

@@ -16,5 +16,5 @@ returns : tie.Need-returns
 unfolding draw decimal of_bits
 returns c = simp (c.u32-as-f32.ensures, c.before.get-word.ensures)
 
-pub get-float-spec : {M : Type 1} → statement M
-get-float-spec = tie.close (tie.spec get-word-requires u32-as-f32-requires returns)
+pub get_float_spec : {M : Type 1} → statement M
+get_float_spec = tie.close (tie.spec get-word-requires u32-as-f32-requires returns)

@@ -12,5 +12,5 @@ returns : tie.Need-returns
 unfolding digit
 returns c = refl
 
-pub digit-spec : {M : Type 1} → statement M
-digit-spec = tie.close (tie.spec add-result returns)
+pub digit_spec : {M : Type 1} → statement M
+digit_spec = tie.close (tie.spec add-result returns)

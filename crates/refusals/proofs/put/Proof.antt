@@ -8,7 +8,7 @@ use mathlib.Core.List.{List}
 use lib.ListN.{length, drop, get_or}
 use lib.Seq.{sets}
 use Rattle.refusals.specs.Table.{sentence}
-use Rattle.refusals.proofs.Pieces.{sentence-stops, sentence-ends, put-more, longer, put_whole}
+use Rattle.refusals.proofs.Pieces.{sentence_stops, sentence_ends, put_more, longer, put_whole}
 use Rattle.refusals.proofs.put.Statement.{statement}
 use Rattle.refusals.proofs.put.Tie as tie
 
@@ -34,7 +34,7 @@ returns : tie.Need-returns invariant-loop decreases-loop
 returns c =
     let at = c.before.before.before in
     let taken = c.before.before.loop-test.true in
-    put_whole _ _ _ _ _ _ (sentence-stops at.before.args.piece.now at.loop.k taken c.if1.true)
+    put_whole _ _ _ _ _ _ (sentence_stops at.before.args.piece.now at.loop.k taken c.if1.true)
     at.loop.invariant.1
     at.loop.invariant.2
 
@@ -60,7 +60,7 @@ loop-again c =
     let h = c.before.before.before.loop-test.true in
     let e = c.before.if1.false in (
       omega arith,
-      sym (put-more piece at.loop.k h at.loop.out at.before.args.at e) ∙ at.loop.invariant.1,
+      sym (put_more piece at.loop.k h at.loop.out at.before.args.at e) ∙ at.loop.invariant.1,
       omega (arith, longer piece at.loop.k h e, at.loop.invariant.2),
     )
 
@@ -72,7 +72,7 @@ returns-2 c =
     let at = c.before in
     let piece = at.before.args.piece.now in
     let e : at.loop.k ≡ length piece = omega arith in
-    put_whole _ _ _ _ _ _ (ap (λ (k : ℕ). sentence (drop k piece)) e ∙ sentence-ends piece)
+    put_whole _ _ _ _ _ _ (ap (λ (k : ℕ). sentence (drop k piece)) e ∙ sentence_ends piece)
     at.loop.invariant.1
     at.loop.invariant.2
 

@@ -1,5 +1,5 @@
 -- `refusals::put_number` meets its contract. Assumes nothing.
-use Rattle.refusals.proofs.Pieces.{one-digit, two_digits, three-digits}
+use Rattle.refusals.proofs.Pieces.{one_digit, two_digits, three_digits}
 use borrow.Author.Rules.{rules}
 use Rattle.refusals.proofs.put_number.Statement.{statement}
 use Rattle.refusals.proofs.put_number.Tie as tie
@@ -16,7 +16,7 @@ put-requires c κs = search rules
 returns : tie.Need-returns
 returns c =
     let one = c.before.before.before in
-    one-digit _ _ _ _ _ _ one.if1.true one.before.digit.ensures c.put.ensures
+    one_digit _ _ _ _ _ _ one.if1.true one.before.digit.ensures c.put.ensures
 
 digit-requires-2 : tie.Need-digit-requires-2
 digit-requires-2 c κs = search rules
@@ -49,13 +49,13 @@ returns-3 c =
     let three = c.before.before.before in
     let two = three.before.before in
     let one = two.before in
-    three-digits _ _ _ _ _ _ _ _ one.if1.false three.before.if2.false three.digit3.ensures
+    three_digits _ _ _ _ _ _ _ _ one.if1.false three.before.if2.false three.digit3.ensures
     two.digit2.ensures
     one.before.digit.ensures
     c.put3.ensures
 
-pub put-number-spec : {M : Type 1} → statement M
-put-number-spec =
+pub put_number_spec : {M : Type 1} → statement M
+put_number_spec =
     tie.close
     (tie.spec
     digit-requires

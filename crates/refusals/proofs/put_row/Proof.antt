@@ -39,8 +39,8 @@ returns-2 : tie.Need-returns-2
 unfolding row letters sentence
 returns-2 c = rw (lt-leb _ _ c.before.before.before.if1.false) c.put2.ensures
 
-pub put-row-spec : {M : Type 1} → statement M
-put-row-spec =
+pub put_row_spec : {M : Type 1} → statement M
+put_row_spec =
     tie.close
     (tie.spec
     mul-start

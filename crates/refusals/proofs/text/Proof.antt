@@ -3,7 +3,7 @@ use mathlib.Core.Path.{refl}
 use native.Mathlib.Omega.{arith}
 use Rattle.refusals.specs.Refusals.{letters, words}
 use Rattle.refusals.specs.Table.{sentence}
-use Rattle.refusals.proofs.Pieces.{then, decimal-size, rows, told}
+use Rattle.refusals.proofs.Pieces.{then, decimal_size, rows, told}
 use borrow.Author.Rules.{rules}
 use Rattle.refusals.proofs.text.Statement.{statement}
 use Rattle.refusals.proofs.text.Tie as tie
@@ -26,7 +26,7 @@ unfolding sentence
 put-requires-2 c κs =
     let first = c.before.before.before.before in
     let number = first.before.before.before.args.number in
-    omega (arith, first.put.ensures.place, c.before.before.put-number.ensures.place, decimal-size number)
+    omega (arith, first.put.ensures.place, c.before.before.put-number.ensures.place, decimal_size number)
 
 put-row-requires : tie.Need-put-row-requires
 unfolding sentence
@@ -39,7 +39,7 @@ put-row-requires c κs =
       first.put.ensures.place,
       number.put-number.ensures.place,
       second.put2.ensures.place,
-      decimal-size first.before.before.before.args.number,
+      decimal_size first.before.before.before.args.number,
     )
 
 returns : tie.Need-returns
@@ -51,8 +51,8 @@ returns c =
     (then _ _ _ _ _ _ _ _ c.before.before.before.before.before.before.before.put-number.ensures
     (then _ _ _ _ _ _ _ _ c.before.before.before.before.put2.ensures c.put-row.ensures)))
 
-pub text-spec : {M : Type 1} → statement M
-text-spec =
+pub text_spec : {M : Type 1} → statement M
+text_spec =
     tie.close
     (tie.spec
     slice-aggregate-put

@@ -5,7 +5,7 @@ use lib.Dec.{T}
 use lib.ListN.{get_or}
 use lib.Ieee.{Float, nan}
 use Rattle.sine.specs.Bound.{within}
-use Rattle.sine.proofs.Bounded.{pairs-within}
+use Rattle.sine.proofs.Bounded.{pairs_within}
 use borrow.Author.Rules.{rules}
 use Rattle.sine.proofs.entry.Statement.{statement}
 use Rattle.sine.proofs.entry.Tie as tie
@@ -20,7 +20,7 @@ returns : tie.Need-returns
 returns c =
     let s = c.before in
     let i = s.args.i in
-    (refl, λ e. subst (λ (l : List Float). T (within (get_or l i nan))) (sym e) (pairs-within i s.requires))
+    (refl, λ e. subst (λ (l : List Float). T (within (get_or l i nan))) (sym e) (pairs_within i s.requires))
 
 pub entry_spec : {M : Type 1} → statement M
 entry_spec = tie.close (tie.spec mul-result element-copy-out-result returns)

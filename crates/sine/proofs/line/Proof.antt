@@ -6,8 +6,8 @@ use borrow.Author.Tests.{le-leb}
 use lib.Dec.{T}
 use lib.Ieee.{of_bits, in_float}
 use Rattle.numbers.specs.F32.{decimal}
-use Rattle.sine.proofs.Fraction.{line-is}
-use Rattle.sine.proofs.Lines.{line-within}
+use Rattle.sine.proofs.Fraction.{line_is}
+use Rattle.sine.proofs.Lines.{line_within}
 use borrow.Author.Rules.{rules}
 use Rattle.sine.proofs.line.Statement.{statement}
 use Rattle.sine.proofs.line.Tie as tie
@@ -46,11 +46,11 @@ returns : tie.Need-returns
 unfolding decimal of_bits
 returns c =
     let s = c.before.before.before in
-    let q = line-is s.args.pairs.now s.args.phase c.before.entry.ensures.0 c.entry2.ensures.0 in
-    (q, line-within s.args.pairs.now s.args.phase (omega arith) q)
+    let q = line_is s.args.pairs.now s.args.phase c.before.entry.ensures.0 c.entry2.ensures.0 in
+    (q, line_within s.args.pairs.now s.args.phase (omega arith) q)
 
-pub line-spec : {M : Type 1} → statement M
-line-spec =
+pub line_spec : {M : Type 1} → statement M
+line_spec =
     tie.close
     (tie.spec
     cast-integral

@@ -14,5 +14,5 @@ returns : tie.Need-returns
 unfolding modulated
 returns c = simp (c.wrapping-add-u32.ensures, c.before.turned.ensures)
 
-pub modulate-spec : {M : Type 1} → statement M
-modulate-spec = tie.close (tie.spec turned-requires wrapping-add-u32-requires returns)
+pub modulate_spec : {M : Type 1} → statement M
+modulate_spec = tie.close (tie.spec turned-requires wrapping-add-u32-requires returns)

@@ -14,5 +14,5 @@ returns : tie.Need-returns
 unfolding modulated
 returns c = simp (c.wrapping-add-u32.ensures, c.before.turned-near.ensures)
 
-pub modulate-near-spec : {M : Type 1} → statement M
-modulate-near-spec = tie.close (tie.spec turned-near-requires wrapping-add-u32-requires returns)
+pub modulate_near_spec : {M : Type 1} → statement M
+modulate_near_spec = tie.close (tie.spec turned-near-requires wrapping-add-u32-requires returns)

@@ -1,5 +1,5 @@
 -- `sine::sine_pm` meets its contract. Assumes nothing.
-use Rattle.sine.specs.Sine.{sinePm}
+use Rattle.sine.specs.Sine.{sine_pm}
 use borrow.Author.Rules.{rules}
 use Rattle.sine.proofs.sine_pm.Statement.{statement}
 use Rattle.sine.proofs.sine_pm.Tie as tie
@@ -11,8 +11,8 @@ line-requires : tie.Need-line-requires
 line-requires c κs = search rules
 
 returns : tie.Need-returns
-unfolding sinePm
+unfolding sine_pm
 returns c = (simp (c.line.ensures.0, c.before.modulate.ensures), c.line.ensures.1)
 
-pub sine-pm-spec : {M : Type 1} → statement M
-sine-pm-spec = tie.close (tie.spec modulate-requires line-requires returns)
+pub sine_pm_spec : {M : Type 1} → statement M
+sine_pm_spec = tie.close (tie.spec modulate-requires line-requires returns)

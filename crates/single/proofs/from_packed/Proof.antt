@@ -1,6 +1,6 @@
 -- `single::from_packed` meets its contract: what is unpacked is written. Assumes nothing.
 use mathlib.Core.Path.{◌∙◌}
-use Rattle.single.proofs.Answers.{not-unpacked, is-unpacked}
+use Rattle.single.proofs.Answers.{not_unpacked, is_unpacked}
 use borrow.Author.Rules.{rules}
 use Rattle.single.proofs.from_packed.Statement.{statement}
 use Rattle.single.proofs.from_packed.Tie as tie
@@ -19,7 +19,7 @@ returns c =
     let at-unpack = c.before.before.before in
     let at-start = at-unpack.before.before.before in
     c.refused.ensures
-    ∙ not-unpacked at-start.args.packed.now at-start.args.channel _ at-unpack.before.new.ensures _
+    ∙ not_unpacked at-start.args.packed.now at-start.args.channel _ at-unpack.before.new.ensures _
     at-unpack.unpack.ensures c.before.if1.true
 
 write-requires : tie.Need-write-requires
@@ -29,10 +29,10 @@ returns-2 : tie.Need-returns-2
 returns-2 c =
     let at-unpack = c.before.before.before.before in
     let at-start = at-unpack.before.before.before in
-    is-unpacked at-start.args.packed.now at-start.args.channel _ at-unpack.before.new.ensures _
+    is_unpacked at-start.args.packed.now at-start.args.channel _ at-unpack.before.new.ensures _
     at-unpack.unpack.ensures c.before.before.if1.false _ c.write.ensures
 
-pub from-packed-spec : {M : Type 1} → statement M
-from-packed-spec =
+pub from_packed_spec : {M : Type 1} → statement M
+from_packed_spec =
     tie.close
     (tie.spec new-requires unpack-requires refused-requires returns write-requires returns-2)

@@ -1,9 +1,9 @@
 -- `single::patch_in` meets its contract: its data, turned, are the patch's numbers. Assumes nothing.
 use mathlib.Core.Path.{◌∙◌, ap}
-use Rattle.dump.specs.Dump.{yamahaForm, data_of}
+use Rattle.dump.specs.Dump.{yamaha_form, data_of}
 use Rattle.patch_numbers.specs.Numbers.{patch_of}
-use Rattle.single.specs.Single.{singleForm}
-use Rattle.single.proofs.Orders.{patch-of-turned}
+use Rattle.single.specs.Single.{single_form}
+use Rattle.single.proofs.Orders.{patch_of_turned}
 use borrow.Author.Rules.{rules}
 use Rattle.single.proofs.patch_in.Statement.{statement}
 use Rattle.single.proofs.patch_in.Tie as tie
@@ -24,12 +24,12 @@ patch-of-requires : tie.Need-patch-of-requires
 patch-of-requires c κs = search rules
 
 returns : tie.Need-returns
-unfolding data_of singleForm yamahaForm
+unfolding data_of single_form yamaha_form
 returns c =
-    c.patch-of.ensures ∙ ap patch_of c.before.before.turned.ensures ∙ patch-of-turned _
+    c.patch-of.ensures ∙ ap patch_of c.before.before.turned.ensures ∙ patch_of_turned _
 
-pub patch-in-spec : {M : Type 1} → statement M
-patch-in-spec =
+pub patch_in_spec : {M : Type 1} → statement M
+patch_in_spec =
     tie.close
     (tie.spec
     sub-turned

@@ -3,8 +3,8 @@ use mathlib.Core.Path.{◌≡◌, ◌∙◌, ap}
 use borrow.Author.Tests.{not-true, not-false}
 use Rattle.dump.specs.declared.Form.{Form}
 use Rattle.dump.specs.Dump.{opened_of}
-use Rattle.single.specs.Single.{singleForm}
-use Rattle.single.proofs.Answers.{opened-length, dump-refused, patch-refused, patch-read}
+use Rattle.single.specs.Single.{single_form}
+use Rattle.single.proofs.Answers.{opened_length, dump_refused, patch_refused, patch_read}
 use borrow.Author.Rules.{rules}
 use Rattle.single.proofs.read.Statement.{statement}
 use Rattle.single.proofs.read.Tie as tie
@@ -17,7 +17,7 @@ channel-requires c κs = search rules
 
 -- the dump's number and channel
 opened : (c : tie.After-channel)
-    → c.channel.result ≡ opened_of singleForm c.before.before.before.args.dump.now
+    → c.channel.result ≡ opened_of single_form c.before.before.before.args.dump.now
 opened c =
     c.channel.ensures
     ∙ ap (λ (f : Form). opened_of f c.before.before.before.args.dump.now) c.before.single-form.ensures
@@ -27,13 +27,13 @@ returns c =
     let at-channel = c.before.before in
     let at-form = at-channel.before in
     let at-start = at-form.before.before in
-    dump-refused at-start.args.dump.now at-start.args.patch _ (opened at-channel) c.if1.true
+    dump_refused at-start.args.dump.now at-start.args.patch _ (opened at-channel) c.if1.true
 
 patch-in-requires : tie.Need-patch-in-requires
 patch-in-requires c κs =
     let at-channel = c.before.before in
     let at-start = at-channel.before.before.before in
-    opened-length at-start.args.dump.now at-start.args.patch _ (opened at-channel) c.if1.false
+    opened_length at-start.args.dump.now at-start.args.patch _ (opened at-channel) c.if1.false
 
 fits-requires : tie.Need-fits-requires
 fits-requires c κs = search rules
@@ -43,7 +43,7 @@ returns-2 c =
     let at-patch = c.before.before in
     let at-channel = at-patch.before.before.before in
     let at-start = at-channel.before.before.before in
-    patch-refused at-start.args.dump.now at-start.args.patch _ (opened at-channel)
+    patch_refused at-start.args.dump.now at-start.args.patch _ (opened at-channel)
     at-patch.before.if1.false _
     at-patch.patch-in.ensures _ c.before.fits2.ensures
     (not-true c.before.fits2.result c.if2.true)
@@ -53,7 +53,7 @@ returns-3 c =
     let at-patch = c.before.before in
     let at-channel = at-patch.before.before.before in
     let at-start = at-channel.before.before.before in
-    patch-read at-start.args.dump.now at-start.args.patch _ (opened at-channel)
+    patch_read at-start.args.dump.now at-start.args.patch _ (opened at-channel)
     at-patch.before.if1.false _
     at-patch.patch-in.ensures _ c.before.fits2.ensures
     (not-false c.before.fits2.result c.if2.false)

@@ -1,5 +1,5 @@
 -- `single::to_packed` meets its contract: what is read is packed. Assumes nothing.
-use Rattle.single.proofs.Answers.{not-read, is_read}
+use Rattle.single.proofs.Answers.{not_read_lem, is_read}
 use borrow.Author.Rules.{rules}
 use Rattle.single.proofs.to_packed.Statement.{statement}
 use Rattle.single.proofs.to_packed.Tie as tie
@@ -14,7 +14,7 @@ returns : tie.Need-returns
 returns c =
     let at_read = c.before.before in
     let at-start = at_read.before.before.before in
-    not-read at-start.args.dump.now _ at_read.before.new.ensures _ at_read.read.ensures c.if1.true
+    not_read_lem at-start.args.dump.now _ at_read.before.new.ensures _ at_read.read.ensures c.if1.true
 
 pack-requires : tie.Need-pack-requires
 pack-requires c κs = search rules
@@ -27,5 +27,5 @@ returns-2 c =
     is_read at-start.args.dump.now _ at_read.before.new.ensures _ at_read.read.ensures
     at-else.if1.false _ c.before.pack.ensures
 
-pub to-packed-spec : {M : Type 1} → statement M
-to-packed-spec = tie.close (tie.spec new-requires read-requires returns pack-requires returns-2)
+pub to_packed_spec : {M : Type 1} → statement M
+to_packed_spec = tie.close (tie.spec new-requires read-requires returns pack-requires returns-2)

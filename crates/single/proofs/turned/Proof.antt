@@ -2,7 +2,7 @@
 use mathlib.Core.Path.{◌≡◌, refl, ◌∙◌}
 use Prim.Native.Nat.{◌-◌, ◌≤◌}
 use lib.ListN.{length, length-set}
-use Rattle.single.proofs.Turns.{TurnedTo, turned-next, turned-all}
+use Rattle.single.proofs.Turns.{TurnedTo, turned_next, turned_all}
 use borrow.Author.Rules.{rules}
 use native.Mathlib.Omega.{arith}
 use Rattle.single.proofs.turned.Statement.{statement}
@@ -38,7 +38,7 @@ loop-again c =
     let at-start = at-loop.before.before in (
       omega arith,
       length-set at-loop.loop.out at-loop.loop.i _ ∙ at-loop.loop.invariant.1,
-      turned-next at-start.args.by at-start.args.s.now at-loop.loop.i at-loop.loop.out _ (omega arith)
+      turned_next at-start.args.by at-start.args.s.now at-loop.loop.i at-loop.loop.out _ (omega arith)
           c.before.turned-place.ensures.0 at-loop.loop.invariant.2,
     )
 
@@ -47,11 +47,11 @@ returns c =
     let at-loop = c.before in
     let at-start = at-loop.before.before in
     let end : at-loop.loop.i ≡ 155 = omega arith in
-    turned-all at-start.args.by at-start.args.s.now at-loop.loop.out at-loop.loop.invariant.1
+    turned_all at-start.args.by at-start.args.s.now at-loop.loop.out at-loop.loop.invariant.1
     (λ k h. at-loop.loop.invariant.2 k (omega (arith, end)))
 
-pub turned-spec : {M : Type 1} → statement M
-turned-spec =
+pub turned_spec : {M : Type 1} → statement M
+turned_spec =
     tie.close
     (tie.spec
     invariant-loop

@@ -1,6 +1,6 @@
 -- `single::write` meets its contract: what fits is written, on one of sixteen channels. Assumes nothing.
 use mathlib.Core.Path.{◌∙◌}
-use Rattle.single.proofs.Answers.{is-written, not_written}
+use Rattle.single.proofs.Answers.{is_written, not_written}
 use borrow.Author.Rules.{rules}
 use Rattle.single.proofs.write.Statement.{statement}
 use Rattle.single.proofs.write.Tie as tie
@@ -14,7 +14,7 @@ write-whole-requires c κs = search rules
 returns : tie.Need-returns
 returns c =
     let at-fits = c.before.before in
-    is-written at-fits.before.args.patch at-fits.before.args.channel _ at-fits.fits2.ensures
+    is_written at-fits.before.args.patch at-fits.before.args.channel _ at-fits.fits2.ensures
     c.before.if1.true _ c.write-whole.ensures
 
 refused-requires : tie.Need-refused-requires

@@ -5,10 +5,10 @@ use Prim.Native.Nat.{ℕ}
 use native.Mathlib.Omega.{arith}
 use lib.ListN.{length}
 use Rattle.dump.specs.declared.Form.{Form}
-use Rattle.dump.specs.Dump.{yamahaForm}
+use Rattle.dump.specs.Dump.{yamaha_form}
 use Rattle.dump_writer.specs.Written.{written_of}
-use Rattle.single.specs.Single.{singleForm, dataBytes, turned}
-use Rattle.single.proofs.Orders.{data-of-numbers}
+use Rattle.single.specs.Single.{single_form, data_bytes, turned}
+use Rattle.single.proofs.Orders.{data_of_numbers}
 use borrow.Author.Rules.{rules}
 use Rattle.single.proofs.write_whole.Statement.{statement}
 use Rattle.single.proofs.write_whole.Tie as tie
@@ -32,7 +32,7 @@ slice-aggregate-write-2 : tie.Need-slice-aggregate-write-2
 slice-aggregate-write-2 c = search rules
 
 write-requires : tie.Need-write-requires
-unfolding singleForm yamahaForm
+unfolding single_form yamaha_form
 write-requires c κs =
     let count : c.before.single-form.result.count ≡ 155 =
     ap (λ (f : Form). f.count) c.before.single-form.ensures in
@@ -46,14 +46,14 @@ returns c =
     let at-turned = at-form.before.before in
     let at-numbers = at-turned.before.before in
     let at-start = at-numbers.before in
-    let bytes-are : at-turned.turned.result ≡ dataBytes at-start.args.p =
-    at-turned.turned.ensures ∙ ap (turned 1) at-numbers.numbers.ensures ∙ data-of-numbers at-start.args.p in
+    let bytes-are : at-turned.turned.result ≡ data_bytes at-start.args.p =
+    at-turned.turned.ensures ∙ ap (turned 1) at-numbers.numbers.ensures ∙ data_of_numbers at-start.args.p in
     at-write.write.ensures
     ∙ ap₂ (λ (f : Form) (b : List ℕ). written_of f at-start.args.channel b) at-form.single-form.ensures
     bytes-are
 
-pub write-whole-spec : {M : Type 1} → statement M
-write-whole-spec =
+pub write_whole_spec : {M : Type 1} → statement M
+write_whole_spec =
     tie.close
     (tie.spec
     numbers-requires

@@ -22,8 +22,8 @@ same_length c = search rules
 returns : tie.Need-returns
 returns c = search rules
 
-pub put-refusal-spec : {M : Type 1} → statement M
-put-refusal-spec =
+pub put_refusal_spec : {M : Type 1} → statement M
+put_refusal_spec =
     tie.close
     (tie.spec
     text-requires

@@ -19,8 +19,8 @@ tell-line-requires c κs = search rules
 returns : tie.Need-returns
 returns c = search rules
 
-pub tell-refusal-spec : {M : Type 1} → statement M
-tell-refusal-spec =
+pub tell_refusal_spec : {M : Type 1} → statement M
+tell_refusal_spec =
     tie.close
     (tie.spec
     text-requires

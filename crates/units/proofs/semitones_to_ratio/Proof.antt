@@ -6,20 +6,20 @@ use borrow.Author.Tests.{le-leb}
 use lib.Dec.{T}
 use lib.Ieee.{of_bits, in_float}
 use Rattle.numbers.specs.F32.{decimal}
-use Rattle.units.proofs.Bounds.{whole-index, fine-index, entries}
+use Rattle.units.proofs.Bounds.{whole_index, fine_index, entries}
 use borrow.Author.Rules.{rules}
 use Rattle.units.proofs.semitones_to_ratio.Statement.{statement}
 use Rattle.units.proofs.semitones_to_ratio.Tie as tie
 
 whole : (c : tie.After-f32-as-usize) → c.f32-as-usize.result < 256
 unfolding decimal of_bits
-whole c = whole-index c.before.args.semitones c.f32-as-usize.result c.f32-as-usize.ensures c.before.requires
+whole c = whole_index c.before.args.semitones c.f32-as-usize.result c.f32-as-usize.ensures c.before.requires
 
 fine : (c : tie.After-f32-as-usize2) → c.f32-as-usize2.result < 256
 unfolding decimal of_bits
 fine c =
     let w = c.before.before in
-    fine-index w.before.args.semitones w.f32-as-usize.result w.f32-as-usize.ensures
+    fine_index w.before.args.semitones w.f32-as-usize.result w.f32-as-usize.ensures
     c.f32-as-usize2.result
     c.f32-as-usize2.ensures w.before.requires
 
@@ -57,8 +57,8 @@ returns c =
     d.f32-as-usize2.ensures
     s.args.high.now s.args.low.now
 
-pub semitones-to-ratio-spec : {M : Type 1} → statement M
-semitones-to-ratio-spec =
+pub semitones_to_ratio_spec : {M : Type 1} → statement M
+semitones_to_ratio_spec =
     tie.close
     (tie.spec
     f32-as-usize-requires

@@ -21,8 +21,8 @@ returns c =
     made at-start.args.semitones at-lut-pitch-ratio-high.lut-pitch-ratio-high.ensures
     at-lut-pitch-ratio-low.lut-pitch-ratio-low.ensures c.semitones-to-ratio-lent.ensures
 
-pub semitones-to-ratio-safe-spec : {M : Type 1} → statement M
-semitones-to-ratio-safe-spec =
+pub semitones_to_ratio_safe_spec : {M : Type 1} → statement M
+semitones_to_ratio_safe_spec =
     tie.close
     (tie.spec
     lut-pitch-ratio-high-requires

@@ -14,5 +14,5 @@ returns : tie.Need-returns
 unfolding interpolated
 returns c = simp (c.line.ensures, c.before.f32-clamp-unit.ensures)
 
-pub interpolate-spec : {M : Type 1} → statement M
-interpolate-spec = tie.close (tie.spec f32-clamp-unit-requires line-requires returns)
+pub interpolate_spec : {M : Type 1} → statement M
+interpolate_spec = tie.close (tie.spec f32-clamp-unit-requires line-requires returns)

@@ -22,6 +22,6 @@ returns c =
     c.before.i32-as-f32.ensures
     c.interpolate.ensures
 
-pub interpolate-wrap-spec : {M : Type 1} → statement M
-interpolate-wrap-spec =
+pub interpolate_wrap_spec : {M : Type 1} → statement M
+interpolate_wrap_spec =
     tie.close (tie.spec f32-as-i32-requires i32-as-f32-requires interpolate-requires returns)

@@ -2,7 +2,7 @@
 use mathlib.Core.Path.{refl, ◌∙◌}
 use native.Mathlib.Omega.{arith}
 use lib.Ieee.{div, of_bits}
-use Rattle.utils.proofs.Lookup.{no-entry, at_last, between}
+use Rattle.utils.proofs.Lookup.{no_entry, at_last, between}
 use borrow.Author.Rules.{rules}
 use Rattle.utils.proofs.line.Statement.{statement}
 use Rattle.utils.proofs.line.Tie as tie
@@ -11,7 +11,7 @@ returns : tie.Need-returns
 unfolding div of_bits
 returns c =
     let s = c.before.before in
-    no-entry s.args.table.now c.if1.true
+    no_entry s.args.table.now c.if1.true
     ∙ at_last s.args.table.now s.args.place _ refl (omega arith)
 
 sub-last : tie.Need-overflow-sub-last
@@ -56,8 +56,8 @@ returns-3 c =
     between s.args.table.now s.args.place _ at-f32-as-usize.f32-as-usize.ensures _
     c.before.before.whole_part.ensures (omega arith)
 
-pub line-spec : {M : Type 1} → statement M
-line-spec =
+pub line_spec : {M : Type 1} → statement M
+line_spec =
     tie.close
     (tie.spec
     returns

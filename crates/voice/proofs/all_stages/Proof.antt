@@ -1,6 +1,6 @@
 -- `voice::all_stages` meets its contract. Assumes nothing.
 use borrow.Author.Rules.{rules}
-use Rattle.voice.proofs.Tests.{six-stages}
+use Rattle.voice.proofs.Tests.{six_stages}
 use Rattle.voice.proofs.all_stages.Statement.{statement}
 use Rattle.voice.proofs.all_stages.Tie as tie
 
@@ -23,10 +23,10 @@ element-copy-out-result-6 : tie.Need-element-copy-out-result-6
 element-copy-out-result-6 c = search rules
 
 returns : tie.Need-returns
-returns c = six-stages _ (search rules)
+returns c = six_stages _ (search rules)
 
-pub all-stages-spec : {M : Type 1} → statement M
-all-stages-spec =
+pub all_stages_spec : {M : Type 1} → statement M
+all_stages_spec =
     tie.close
     (tie.spec
     element-copy-out-result

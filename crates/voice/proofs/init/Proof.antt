@@ -1,7 +1,7 @@
 -- `voice::init` meets its contract. Assumes nothing.
 use borrow.Author.Rules.{rules}
-use Rattle.voice.specs.Answers.{initAnswer}
-use Rattle.voice.specs.Voice.{freshVoice, noVoice}
+use Rattle.voice.specs.Answers.{init_answer}
+use Rattle.voice.specs.Voice.{fresh_voice, no_voice}
 use Rattle.numbers.specs.F32.{decimal}
 use lib.Ieee.{of_bits}
 use Rattle.voice.proofs.Tests.{refused, accepted}
@@ -15,7 +15,7 @@ voice-with-requires : tie.Need-voice-with-requires
 voice-with-requires c κs = search rules
 
 returns : tie.Need-returns
-unfolding initAnswer noVoice decimal of_bits
+unfolding init_answer no_voice decimal of_bits
 returns c = simp (c.voice-with.ensures, refused c.before.before.is-counted.ensures c.before.if1.true)
 
 sample-rate-fits-requires : tie.Need-sample-rate-fits-requires
@@ -25,7 +25,7 @@ voice-with-requires-2 : tie.Need-voice-with-requires-2
 voice-with-requires-2 c κs = search rules
 
 returns-2 : tie.Need-returns-2
-unfolding initAnswer noVoice decimal of_bits
+unfolding init_answer no_voice decimal of_bits
 returns-2 c =
     let at-if1 = c.before.before.before in
     let at-is-counted = at-if1.before in
@@ -40,7 +40,7 @@ voice-with-requires-3 : tie.Need-voice-with-requires-3
 voice-with-requires-3 c κs = search rules
 
 returns-3 : tie.Need-returns-3
-unfolding initAnswer freshVoice decimal of_bits
+unfolding init_answer fresh_voice decimal of_bits
 returns-3 c =
     let at-if1 = c.before.before.before in
     let at-is-counted = at-if1.before in
@@ -51,8 +51,8 @@ returns-3 c =
           c.before.before.sample-rate-fits.ensures c.before.if2.false,
     )
 
-pub init-spec : {M : Type 1} → statement M
-init-spec =
+pub init_spec : {M : Type 1} → statement M
+init_spec =
     tie.close
     (tie.spec
     is-counted-requires

@@ -1,7 +1,7 @@
 -- `voice::set_patch` meets its contract. Assumes nothing.
 use borrow.Author.Rules.{rules}
-use Rattle.voice.proofs.Tests.{refused, accepted, check-refused, check-accepted}
-use Rattle.voice.proofs.Patches.{set-patch-9, set-patch-6, set-patch-on}
+use Rattle.voice.proofs.Tests.{refused, accepted, check_refused, check_accepted}
+use Rattle.voice.proofs.Patches.{set_patch_9, set_patch_6, set_patch_on}
 use Rattle.voice.proofs.set_patch.Statement.{statement}
 use Rattle.voice.proofs.set_patch.Tie as tie
 
@@ -9,7 +9,7 @@ state-fits-requires : tie.Need-state-fits-requires
 state-fits-requires c κs = search rules
 
 returns : tie.Need-returns
-returns c = set-patch-9 _ _ _ (refused c.before.state-fits.ensures c.if1.true)
+returns c = set_patch_9 _ _ _ (refused c.before.state-fits.ensures c.if1.true)
 
 check-requires : tie.Need-check-requires
 check-requires c κs = search rules
@@ -17,8 +17,8 @@ check-requires c κs = search rules
 returns-2 : tie.Need-returns-2
 returns-2 c =
     let at-state-fits = c.before.before.before in
-    set-patch-6 _ _ _ (accepted at-state-fits.state-fits.ensures c.before.before.if1.false)
-    (check-refused _ c.before.check.ensures c.if2.true)
+    set_patch_6 _ _ _ (accepted at-state-fits.state-fits.ensures c.before.before.if1.false)
+    (check_refused _ c.before.check.ensures c.if2.true)
 
 cast-compile : tie.Need-overflow-cast-compile
 cast-compile c = search rules
@@ -35,11 +35,11 @@ returns-3 c =
     let at-check = at-if2.before in
     let at-if1 = at-check.before in
     let at-state-fits = at-if1.before in
-    set-patch-on _ _ _ (accepted at-state-fits.state-fits.ensures at-if1.if1.false)
-    (check-accepted _ at-check.check.ensures at-if2.if2.false) c.before.compile.ensures c.load.ensures
+    set_patch_on _ _ _ (accepted at-state-fits.state-fits.ensures at-if1.if1.false)
+    (check_accepted _ at-check.check.ensures at-if2.if2.false) c.before.compile.ensures c.load.ensures
 
-pub set-patch-spec : {M : Type 1} → statement M
-set-patch-spec =
+pub set_patch_spec : {M : Type 1} → statement M
+set_patch_spec =
     tie.close
     (tie.spec
     state-fits-requires

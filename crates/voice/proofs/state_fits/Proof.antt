@@ -1,7 +1,7 @@
 -- `voice::state_fits` meets its contract. Assumes nothing.
 use borrow.Author.Rules.{rules}
 use Rattle.voice.proofs.Tests.{refused, accepted}
-use Rattle.voice.proofs.States.{no-count, no-stages, no-pitch, with-patch, without-patch}
+use Rattle.voice.proofs.States.{no_count, no_stages, no_pitch, with_patch_lem, without_patch_lem}
 use Rattle.voice.proofs.state_fits.Statement.{statement}
 use Rattle.voice.proofs.state_fits.Tie as tie
 
@@ -9,7 +9,7 @@ is-counted-requires : tie.Need-is-counted-requires
 is-counted-requires c κs = search rules
 
 returns : tie.Need-returns
-returns c = no-count _ (refused c.before.is-counted.ensures c.if1.true)
+returns c = no_count _ (refused c.before.is-counted.ensures c.if1.true)
 
 all-stages-requires : tie.Need-all-stages-requires
 all-stages-requires c κs = search rules
@@ -18,7 +18,7 @@ returns-2 : tie.Need-returns-2
 returns-2 c =
     let at-if1 = c.before.before.before in
     let at-is-counted = at-if1.before in
-    no-stages _ (accepted at-is-counted.is-counted.ensures at-if1.if1.false)
+    no_stages _ (accepted at-is-counted.is-counted.ensures at-if1.if1.false)
     (refused c.before.all-stages.ensures c.if2.true)
 
 returns-3 : tie.Need-returns-3
@@ -27,7 +27,7 @@ returns-3 c =
     let at-all-stages = at-if2.before in
     let at-if1 = at-all-stages.before.before in
     let at-is-counted = at-if1.before in
-    no-pitch _ (accepted at-is-counted.is-counted.ensures at-if1.if1.false)
+    no_pitch _ (accepted at-is-counted.is-counted.ensures at-if1.if1.false)
     (accepted at-all-stages.all-stages.ensures at-if2.if2.false) c.if3.true
 
 patch-sound-requires : tie.Need-patch-sound-requires
@@ -41,7 +41,7 @@ returns-4 c =
     let at-all-stages = at-if2.before in
     let at-if1 = at-all-stages.before.before in
     let at-is-counted = at-if1.before in
-    with-patch _ (accepted at-is-counted.is-counted.ensures at-if1.if1.false)
+    with_patch_lem _ (accepted at-is-counted.is-counted.ensures at-if1.if1.false)
     (accepted at-all-stages.all-stages.ensures at-if2.if2.false) at-if3.if3.false at-if4.if4.true
     c.patch-sound.ensures
 
@@ -51,11 +51,11 @@ returns-5 c =
     let at-all-stages = at-if2.before in
     let at-if1 = at-all-stages.before.before in
     let at-is-counted = at-if1.before in
-    without-patch _ (accepted at-is-counted.is-counted.ensures at-if1.if1.false)
+    without_patch_lem _ (accepted at-is-counted.is-counted.ensures at-if1.if1.false)
     (accepted at-all-stages.all-stages.ensures at-if2.if2.false) c.before.if3.false c.if4.false
 
-pub state-fits-spec : {M : Type 1} → statement M
-state-fits-spec =
+pub state_fits_spec : {M : Type 1} → statement M
+state_fits_spec =
     tie.close
     (tie.spec
     is-counted-requires

@@ -1,6 +1,6 @@
 -- `voice::voice_with` meets its contract. Assumes nothing.
 use borrow.Author.Rules.{rules}
-use Rattle.voice.specs.Voice.{voiceWith}
+use Rattle.voice.specs.Voice.{voice_with}
 use Rattle.numbers.specs.F32.{decimal}
 use lib.Ieee.{of_bits}
 use Rattle.algorithms.specs.Table.{six}
@@ -20,11 +20,11 @@ no-plan-requires : tie.Need-no-plan-requires
 no-plan-requires c κs = search rules
 
 returns : tie.Need-returns
-unfolding voiceWith decimal of_bits six
+unfolding voice_with decimal of_bits six
 returns c =
     let at-init = c.before.before.before in
     simp (c.no-plan.ensures, c.before.new2.ensures, c.before.before.new.ensures, at-init.init.ensures)
 
-pub voice-with-spec : {M : Type 1} → statement M
-voice-with-spec =
+pub voice_with_spec : {M : Type 1} → statement M
+voice_with_spec =
     tie.close (tie.spec init-requires new-requires new-requires-2 no-plan-requires returns)

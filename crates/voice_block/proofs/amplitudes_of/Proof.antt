@@ -3,8 +3,8 @@
 use mathlib.Core.Path.{ap, ◌≡◌}
 use lib.ListN.{length, length-map}
 use borrow.Author.Rules.{rules}
-use Rattle.voice_block.specs.Calls.{noOperator}
-use Rattle.voice_block.specs.State.{amplitudesOf}
+use Rattle.voice_block.specs.Calls.{no_operator}
+use Rattle.voice_block.specs.State.{amplitudes_of}
 use Rattle.voice_block.proofs.State.{six}
 use Rattle.voice_block.proofs.amplitudes_of.Statement.{statement}
 use Rattle.voice_block.proofs.amplitudes_of.Tie as tie
@@ -31,11 +31,11 @@ element-copy-out-t20 : tie.Need-element-copy-out-t20
 element-copy-out-t20 c = search rules
 
 returns : tie.Need-returns
-unfolding amplitudesOf
-returns c = ap amplitudesOf (six noOperator c.before.args.state.operator (long c.before))
+unfolding amplitudes_of
+returns c = ap amplitudes_of (six no_operator c.before.args.state.operator (long c.before))
 
-pub amplitudes-of-spec : {M : Type 1} → statement M
-amplitudes-of-spec =
+pub amplitudes_of_spec : {M : Type 1} → statement M
+amplitudes_of_spec =
     tie.close
     (tie.spec
     element-copy-out-t5

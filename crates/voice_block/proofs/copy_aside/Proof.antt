@@ -60,8 +60,8 @@ returns c =
     let e : c.before.loop.i ≡ length s = omega arith in
     (rw e at c.before.loop.invariant.1) ∙ take-length s
 
-pub copy-aside-spec : {M : Type 1} → statement M
-copy-aside-spec =
+pub copy_aside_spec : {M : Type 1} → statement M
+copy_aside_spec =
     tie.close
     (tie.spec
     invariant-loop

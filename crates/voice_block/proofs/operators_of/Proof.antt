@@ -1,6 +1,6 @@
 -- `voice_block::operators_of` meets its contract.
 -- Assumes nothing.
-use Rattle.voice_block.proofs.State.{operators-law}
+use Rattle.voice_block.proofs.State.{operators_law}
 use borrow.Author.Rules.{rules}
 use Rattle.voice_block.proofs.operators_of.Statement.{statement}
 use Rattle.voice_block.proofs.operators_of.Tie as tie
@@ -34,12 +34,12 @@ returns c =
     let at-2 = at-3.before in
     let at_1 = at-2.before in
     let at-0 = at_1.before in
-    operators-law _ _ _ _ _ _ _ _ _ _ at-0.before.requires at-0.operator-at.ensures at_1.operator-at2.ensures
+    operators_law _ _ _ _ _ _ _ _ _ _ at-0.before.requires at-0.operator-at.ensures at_1.operator-at2.ensures
     at-2.operator-at3.ensures at-3.operator-at4.ensures at-4.operator-at5.ensures
     at_5.operator-at6.ensures c.feedback-of.ensures
 
-pub operators-of-spec : {M : Type 1} → statement M
-operators-of-spec =
+pub operators_of_spec : {M : Type 1} → statement M
+operators_of_spec =
     tie.close
     (tie.spec
     operator-at-requires

@@ -3,8 +3,8 @@
 use mathlib.Core.Path.{ap, ◌≡◌}
 use lib.ListN.{length, length-map}
 use borrow.Author.Rules.{rules}
-use Rattle.voice_block.specs.Calls.{noOperator}
-use Rattle.voice_block.specs.State.{phasesOf}
+use Rattle.voice_block.specs.Calls.{no_operator}
+use Rattle.voice_block.specs.State.{phases_of}
 use Rattle.voice_block.proofs.State.{six}
 use Rattle.voice_block.proofs.phases_of.Statement.{statement}
 use Rattle.voice_block.proofs.phases_of.Tie as tie
@@ -31,11 +31,11 @@ element-copy-out-t20 : tie.Need-element-copy-out-t20
 element-copy-out-t20 c = search rules
 
 returns : tie.Need-returns
-unfolding phasesOf
-returns c = ap phasesOf (six noOperator c.before.args.state.operator (long c.before))
+unfolding phases_of
+returns c = ap phases_of (six no_operator c.before.args.state.operator (long c.before))
 
-pub phases-of-spec : {M : Type 1} → statement M
-phases-of-spec =
+pub phases_of_spec : {M : Type 1} → statement M
+phases_of_spec =
     tie.close
     (tie.spec
     element-copy-out-t5

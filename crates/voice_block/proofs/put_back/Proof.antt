@@ -2,7 +2,7 @@
 -- Assumes nothing.
 use lib.ListN.{length-set}
 use borrow.Author.Rules.{rules}
-use Rattle.voice_block.proofs.State.{zipped-set}
+use Rattle.voice_block.proofs.State.{zipped_set}
 use Rattle.voice_block.proofs.put_back.Statement.{statement}
 use Rattle.voice_block.proofs.put_back.Tie as tie
 
@@ -25,11 +25,11 @@ returns c =
     let i = c.args.place in
     let l = c.args.lane in
     record {
-      operators = zipped-set p a i l;
-      as-phases = length-set p i l.phase;
-      as-amplitudes = length-set a i l.amplitude;
+      operators = zipped_set p a i l;
+      as_phases = length-set p i l.phase;
+      as_amplitudes = length-set a i l.amplitude;
     }
 
-pub put-back-spec : {M : Type 1} → statement M
-put-back-spec =
+pub put_back_spec : {M : Type 1} → statement M
+put_back_spec =
     tie.close (tie.spec mul-phases element-write-phases mul-amplitudes element-write-amplitudes returns)

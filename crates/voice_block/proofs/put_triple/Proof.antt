@@ -1,6 +1,6 @@
 -- `voice_block::put_triple` meets its contract.
 -- Assumes nothing.
-use Rattle.voice_block.proofs.State.{triple-back}
+use Rattle.voice_block.proofs.State.{triple_back}
 use borrow.Author.Rules.{rules}
 use Rattle.voice_block.proofs.put_triple.Statement.{statement}
 use Rattle.voice_block.proofs.put_triple.Tie as tie
@@ -30,11 +30,11 @@ returns c =
     let at-put-back = at-put-back2.before.before.before in
     let at-start = at-put-back.before.before.before in
     let fed = c.put-feedback.ensures in
-    triple-back _ _ _ _ _ _ at-start.requires.1 _ _ _ fed.0 fed.1 _ _ _
+    triple_back _ _ _ _ _ _ at-start.requires.1 _ _ _ fed.0 fed.1 _ _ _
     at-put-back.put_back.ensures _ _ _ at-put-back2.put-back2.ensures at-put-back3.put-back3.ensures
 
-pub put-triple-spec : {M : Type 1} → statement M
-put-triple-spec =
+pub put_triple_spec : {M : Type 1} → statement M
+put_triple_spec =
     tie.close
     (tie.spec
     put-back-requires

@@ -1,7 +1,7 @@
 -- `voice_block::render_pair` meets its contract: what is rendered into its part is what `called` says.
 -- Assumes nothing.
 use mathlib.Core.Path.{refl}
-use Rattle.voice_block.proofs.Calls.{played-fed}
+use Rattle.voice_block.proofs.Calls.{played_fed}
 use borrow.Author.Rules.{rules}
 use Rattle.voice_block.proofs.render_pair.Statement.{statement}
 use Rattle.voice_block.proofs.render_pair.Tie as tie
@@ -34,11 +34,11 @@ returns : tie.Need-returns
 returns c =
     let at-rendered = c.before.before in
     let at-start = at-rendered.before.before in
-    played-fed _ _ _ _ _ _ _ _ _ at-start.before.before.requires refl at-start.start.ensures.0
+    played_fed _ _ _ _ _ _ _ _ _ at-start.before.before.requires refl at-start.start.ensures.0
     at-rendered.render-feedback-2.auto.1.1.1.1.0 at-rendered.render-feedback-2.ensures
 
-pub render-pair-spec : {M : Type 1} → statement M
-render-pair-spec =
+pub render_pair_spec : {M : Type 1} → statement M
+render_pair_spec =
     tie.close
     (tie.spec
     start-requires

@@ -3,8 +3,8 @@
 use Prim.Native.Nat.{◌≤◌, ◌<◌}
 use native.Mathlib.Omega.{arith}
 use Rattle.operator.specs.Chain.Source.{none, external, feedback}
-use Rattle.voice_block.proofs.Quarters.{aside-at}
-use Rattle.voice_block.proofs.Calls.{source-none, source-external, source-feedback, played-law}
+use Rattle.voice_block.proofs.Quarters.{aside_at}
+use Rattle.voice_block.proofs.Calls.{source_none, source_external, source_feedback, played_law}
 use borrow.Author.Rules.{rules}
 use Rattle.voice_block.proofs.render_single.Statement.{statement}
 use Rattle.voice_block.proofs.render_single.Tie as tie
@@ -40,8 +40,8 @@ returns c =
     let at-start = at-if.before.before in
     let at = at-start.before.before.before in
     let rendered = at-render-none.render-none in
-    played-law _ at.args.pace at.args.call _ at.args.block.now _ none _ _ at.requires.0.output
-    at.requires.1.whole at-start.start.ensures.0 (source-none _ _ _ at-if.if1.true)
+    played_law _ at.args.pace at.args.call _ at.args.block.now _ none _ _ at.requires.0.output
+    at.requires.1.whole at-start.start.ensures.0 (source_none _ _ _ at-if.if1.true)
     rendered.auto.1.1.1.0 rendered.ensures
 
 mul-render-feedback : tie.Need-overflow-mul-render-feedback
@@ -69,8 +69,8 @@ returns-2 c =
     let at-start = at-if.before.before.before.before in
     let at = at-start.before.before.before in
     let rendered = at-render-feedback.render-feedback in
-    played-law _ at.args.pace at.args.call _ at.args.block.now _ (feedback _) _ _ at.requires.0.output
-    at.requires.1.whole at-start.start.ensures.0 (source-feedback _ _ _ at-if.if2.true)
+    played_law _ at.args.pace at.args.call _ at.args.block.now _ (feedback _) _ _ at.requires.0.output
+    at.requires.1.whole at-start.start.ensures.0 (source_feedback _ _ _ at-if.if2.true)
     rendered.auto.1.1.1.1.0 rendered.ensures
 
 start-requires-2 : tie.Need-start-requires-2
@@ -142,14 +142,14 @@ returns-3 c =
     let input = at.requires.0.input in
     let some : 1 ≤ call.input = omega arith in
     let few : call.input < 3 = omega arith in
-    let modulation = aside-at at.args.pace.samples call.input from.result at.args.block.now input
+    let modulation = aside_at at.args.pace.samples call.input from.result at.args.block.now input
     at.requires.1.whole from.ensures.0 aside.new.1.0 aside.ensures in
-    played-law _ at.args.pace call _ at.args.block.now _ (external _) _ _ at.requires.0.output
-    at.requires.1.whole at-start.start.ensures.0 (source-external _ _ _ some few _ modulation)
+    played_law _ at.args.pace call _ at.args.block.now _ (external _) _ _ at.requires.0.output
+    at.requires.1.whole at-start.start.ensures.0 (source_external _ _ _ some few _ modulation)
     rendered.auto.1.1.1.1.0 rendered.ensures
 
-pub render-single-spec : {M : Type 1} → statement M
-render-single-spec =
+pub render_single_spec : {M : Type 1} → statement M
+render_single_spec =
     tie.close
     (tie.spec
     start-requires

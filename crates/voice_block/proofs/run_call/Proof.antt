@@ -1,8 +1,8 @@
 -- `voice_block::run_call` meets its contract: the chain is taken out, rendered and put back.
 -- Assumes nothing.
 use native.Mathlib.Omega.{arith}
-use Rattle.voice_block.proofs.Calls.{chain-fed, chain-three, chain-within, call-law}
-use Rattle.voice_block.proofs.State.{single-law, pair-law, triple-law}
+use Rattle.voice_block.proofs.Calls.{chain_fed, chain_three, chain_within, call_law}
+use Rattle.voice_block.proofs.State.{single_law, pair_law, triple_law}
 use borrow.Author.Rules.{rules}
 use Rattle.voice_block.proofs.run_call.Statement.{statement}
 use Rattle.voice_block.proofs.run_call.Tie as tie
@@ -24,7 +24,7 @@ put-single-requires c κs =
     let at-render-single = c.before.before.before.before.before.before.before in
     let at-if = at-render-single.before.before.before in
     let at = at-if.before.before.before.before.before.before.before.before.before.before in
-    (chain-within _ _ at.requires.0 at-if.if1.true, at.requires.1.lent)
+    (chain_within _ _ at.requires.0 at-if.if1.true, at.requires.1.lent)
 
 same_length : tie.Need-same-length
 same_length c = search rules
@@ -39,10 +39,10 @@ returns c =
     let at-feedback-of = at-if.before.before in
     let at-take-out = at-feedback-of.before.before in
     let at = at-take-out.before.before.before.before.before.before in
-    let chain = single-law _ _ _ _ _ _ _ at-feedback-of.feedback-of.ensures _ at-take-out.take_out.ensures in
+    let chain = single_law _ _ _ _ _ _ _ at-feedback-of.feedback-of.ensures _ at-take-out.take_out.ensures in
     let back = c.put-single.ensures in
     record {
-      desk = call-law _ _ _ at.args.pace at.args.call _ _ _ _ _ _ (chain at-if.if1.true)
+      desk = call_law _ _ _ at.args.pace at.args.call _ _ _ _ _ _ (chain at-if.if1.true)
           at-render-single.render-single.ensures back.state;
       lent = back.lent;
     }
@@ -58,14 +58,14 @@ render-pair-requires c κs =
     let at-else = c.before.before.before.before.before.before in
     let at = at-else.before.before.before.before.before.before.before.before.before.before in
     let block = at.requires.1.quartered in
-    (at.requires.0, block, chain-fed _ at.requires.0 at-else.if1.false)
+    (at.requires.0, block, chain_fed _ at.requires.0 at-else.if1.false)
 
 put-pair-requires : tie.Need-put-pair-requires
 put-pair-requires c κs =
     let at-if = c.before.before.before.before.before.before.before in
     let at-else = at-if.before.before.before.before.before in
     let at = at-else.before.before.before.before.before.before.before.before.before.before in
-    (chain-within _ _ at.requires.0 at-if.if2.true, at.requires.1.lent)
+    (chain_within _ _ at.requires.0 at-if.if2.true, at.requires.1.lent)
 
 same-length-3 : tie.Need-same-length-3
 same-length-3 c = search rules
@@ -78,11 +78,11 @@ returns-2 c =
     let at-feedback-of = at-take-out2.before.before.before.before.before in
     let at-take-out = at-feedback-of.before.before in
     let at = at-take-out.before.before.before.before.before.before in
-    let chain = pair-law _ _ _ _ _ _ _ at-feedback-of.feedback-of.ensures _ at-take-out.take_out.ensures
+    let chain = pair_law _ _ _ _ _ _ _ at-feedback-of.feedback-of.ensures _ at-take-out.take_out.ensures
     _ at-take-out2.take-out2.ensures in
     let back = c.put-pair.ensures in
     record {
-      desk = call-law _ _ _ at.args.pace at.args.call _ _ _ _ _ _ (chain at-if.if2.true)
+      desk = call_law _ _ _ at.args.pace at.args.call _ _ _ _ _ _ (chain at-if.if2.true)
           at-render-pair.render-pair.ensures back.state;
       lent = back.lent;
     }
@@ -95,8 +95,8 @@ take-out-requires-3 c κs =
     let at-else = c.before.before in
     let at-else1 = at-else.before.before.before.before.before in
     let at = at-else1.before.before.before.before.before.before.before.before.before.before in
-    let three = chain-three _ at.requires.0 at-else1.if1.false at-else.if2.false in
-    let within = chain-within _ _ at.requires.0 three in
+    let three = chain_three _ at.requires.0 at-else1.if1.false at-else.if2.false in
+    let within = chain_within _ _ at.requires.0 three in
     (omega arith, at.requires.1.lent.six, at.requires.1.lent.as_many)
 
 render-triple-requires : tie.Need-render-triple-requires
@@ -104,15 +104,15 @@ render-triple-requires c κs =
     let at-else1 = c.before.before.before.before.before.before.before.before.before in
     let at = at-else1.before.before.before.before.before.before.before.before.before.before in
     let block = at.requires.1.quartered in
-    (at.requires.0, block, chain-fed _ at.requires.0 at-else1.if1.false)
+    (at.requires.0, block, chain_fed _ at.requires.0 at-else1.if1.false)
 
 put-triple-requires : tie.Need-put-triple-requires
 put-triple-requires c κs =
     let at-else = c.before.before.before.before.before.before.before.before.before.before in
     let at-else1 = at-else.before.before.before.before.before in
     let at = at-else1.before.before.before.before.before.before.before.before.before.before in
-    let three = chain-three _ at.requires.0 at-else1.if1.false at-else.if2.false in
-    (chain-within _ _ at.requires.0 three, at.requires.1.lent)
+    let three = chain_three _ at.requires.0 at-else1.if1.false at-else.if2.false in
+    (chain_within _ _ at.requires.0 three, at.requires.1.lent)
 
 same-length-4 : tie.Need-same-length-4
 same-length-4 c = search rules
@@ -127,18 +127,18 @@ returns-3 c =
     let at-feedback-of = at-else1.before.before in
     let at-take-out = at-feedback-of.before.before in
     let at = at-take-out.before.before.before.before.before.before in
-    let chain = triple-law _ _ _ _ _ _ _ at-feedback-of.feedback-of.ensures _ at-take-out.take_out.ensures
+    let chain = triple_law _ _ _ _ _ _ _ at-feedback-of.feedback-of.ensures _ at-take-out.take_out.ensures
     _ at-take-out2.take-out2.ensures _ at-take-out3.take-out3.ensures in
-    let three = chain-three _ at.requires.0 at-else1.if1.false at-else.if2.false in
+    let three = chain_three _ at.requires.0 at-else1.if1.false at-else.if2.false in
     let back = c.put-triple.ensures in
     record {
-      desk = call-law _ _ _ at.args.pace at.args.call _ _ _ _ _ _ (chain three)
+      desk = call_law _ _ _ at.args.pace at.args.call _ _ _ _ _ _ (chain three)
           at-render-triple.render-triple.ensures back.state;
       lent = back.lent;
     }
 
-pub run-call-spec : {M : Type 1} → statement M
-run-call-spec =
+pub run_call_spec : {M : Type 1} → statement M
+run_call_spec =
     tie.close
     (tie.spec
     cast-at

@@ -6,8 +6,8 @@ use Prim.Native.Nat.{◌-◌, ◌≤◌}
 use native.Mathlib.Numerals.{add-one}
 use native.Mathlib.Omega.{arith}
 use lib.ListN.{length, get_or}
-use Rattle.algorithms.specs.Plan.{noCall}
-use Rattle.voice_block.specs.Calls.{called, calledUpTo}
+use Rattle.algorithms.specs.Plan.{no_call}
+use Rattle.voice_block.specs.Calls.{called, called_up_to}
 use Rattle.voice_block.specs.State.{setting_of, Became}
 use Rattle.voice_block.proofs.run_calls.Statement.{statement}
 use Rattle.voice_block.proofs.run_calls.Tie as tie
@@ -16,7 +16,7 @@ abbrev invariant-loop : tie.invariant-loop
 invariant-loop pairs steps targets pace phases₀ amplitudes₀ feedback₀ aside₀ block₀ plan count k₀
     phases amplitudes feedback aside block k =
     (k ≤ plan.count)
-    × Became (calledUpTo pairs (setting_of steps targets pace) plan.calls k) pace.samples
+    × Became (called_up_to pairs (setting_of steps targets pace) plan.calls k) pace.samples
     phases₀ amplitudes₀ feedback₀ block₀ phases amplitudes feedback block
     × (length block ≡ length block₀) × (length aside ≡ length aside₀)
 
@@ -28,7 +28,7 @@ cast-count : tie.Need-overflow-cast-count invariant-loop decreases-loop
 cast-count c = omega arith
 
 loop-holds : tie.Need-loop-init invariant-loop decreases-loop
-unfolding calledUpTo
+unfolding called_up_to
 loop-holds c = (omega arith, record { desk = refl; lent = c.before.before.requires.1.lent }, refl, refl)
 
 mul-call : tie.Need-overflow-mul-call invariant-loop decreases-loop
@@ -59,7 +59,7 @@ loop-less : tie.Need-loop-smaller invariant-loop decreases-loop
 loop-less c = omega arith
 
 loop-again : tie.Need-loop-preserved invariant-loop decreases-loop
-unfolding calledUpTo
+unfolding called_up_to
 loop-again c =
     let at-run-call = c.before.before.before.before in
     let far = at-run-call.before.before.before.before.before.before.before in
@@ -67,7 +67,7 @@ loop-again c =
     let start = at.before.before.before.args in
     let one = at-run-call.run_call in
     let g = setting_of start.steps.now start.targets.now start.pace in
-    let next = called start.pairs.now g (get_or start.t5.calls at.loop.k noCall) in (
+    let next = called start.pairs.now g (get_or start.t5.calls at.loop.k no_call) in (
       omega (arith, far),
       record {
         desk = rw (add-one at.loop.k) (one.ensures.desk ∙ ap next at.loop.invariant.1.desk);
@@ -89,8 +89,8 @@ returns c =
     let k : c.before.loop.k ≡ at-start.args.t5.count = omega arith in
     rw k at c.before.loop.invariant.1
 
-pub run-calls-spec : {M : Type 1} → statement M
-run-calls-spec =
+pub run_calls_spec : {M : Type 1} → statement M
+run_calls_spec =
     tie.close
     (tie.spec
     invariant-loop

@@ -1,7 +1,7 @@
 -- `voice_block::run_with` meets its contract: the calls over the operators' numbers are the plan.
 -- Assumes nothing.
 use mathlib.Core.Path.{refl}
-use Rattle.voice_block.proofs.State.{plan-law}
+use Rattle.voice_block.proofs.State.{plan_law}
 use borrow.Author.Rules.{rules}
 use Rattle.voice_block.proofs.run_with.Statement.{statement}
 use Rattle.voice_block.proofs.run_with.Tie as tie
@@ -51,13 +51,13 @@ returns c =
     let at-ramp-scale = at-feedback-scale.before in
     let at = at-ramp-scale.before.before.before in
     let run = at-run-calls.run-calls in
-    plan-law _ _ _ _ _ at.args.state _ _ _ _ _ _ _ _ _ refl at-ramp-scale.ramp-scale.ensures
+    plan_law _ _ _ _ _ at.args.state _ _ _ _ _ _ _ _ _ refl at-ramp-scale.ramp-scale.ensures
     at-feedback-scale.feedback-scale.ensures at.requires.2 run.auto.1.1.1.1.1.1.1.1.1.0
-    at-phases-of.phases-of.ensures at-amplitudes-of.amplitudes-of.ensures c.operators-of.ensures
+    at-phases-of.phases-of.ensures at-amplitudes-of.amplitudes-of.ensures c.operators_of.ensures
     run.ensures.desk
 
-pub run-with-spec : {M : Type 1} → statement M
-run-with-spec =
+pub run_with_spec : {M : Type 1} → statement M
+run_with_spec =
     tie.close
     (tie.spec
     cast-ramp-scale

@@ -4,7 +4,7 @@ use mathlib.Core.Path.{◌∙◌}
 use Prim.Native.Nat.{◌<◌}
 use native.Mathlib.Omega.{arith}
 use lib.ListN.{length}
-use Rattle.voice_block.proofs.State.{lane-law}
+use Rattle.voice_block.proofs.State.{lane_law}
 use borrow.Author.Rules.{rules}
 use Rattle.voice_block.proofs.take_out.Statement.{statement}
 use Rattle.voice_block.proofs.take_out.Tie as tie
@@ -32,10 +32,10 @@ returns c =
     let at = c.before.before.before.before in
     let p : at.args.place < length at.args.phases.now = omega arith in
     let a : at.args.place < length at.args.amplitudes.now = omega arith in
-    c.enter.ensures ∙ lane-law _ _ at.args.pace _ _ at.args.place _ p a c.before.operator-at.ensures
+    c.enter.ensures ∙ lane_law _ _ at.args.pace _ _ at.args.place _ p a c.before.operator-at.ensures
 
-pub take-out-spec : {M : Type 1} → statement M
-take-out-spec =
+pub take_out_spec : {M : Type 1} → statement M
+take_out_spec =
     tie.close
     (tie.spec
     mul-step

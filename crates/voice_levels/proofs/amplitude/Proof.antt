@@ -1,8 +1,8 @@
 -- `voice_levels::amplitude` meets its contract. Assumes nothing.
 use borrow.Author.Rules.{rules}
 use lib.Ieee.{neg, of_bits}
-use Rattle.numbers.specs.F32.{decimal, minusDecimal}
-use Rattle.voice_levels.specs.Levels.{amplitudeOf}
+use Rattle.numbers.specs.F32.{decimal, minus_decimal}
+use Rattle.voice_levels.specs.Levels.{amplitude_of}
 use Rattle.voice_levels.proofs.amplitude.Statement.{statement}
 use Rattle.voice_levels.proofs.amplitude.Tie as tie
 
@@ -16,10 +16,10 @@ pow-2-fast-requires : tie.Need-pow-2-fast-requires
 pow-2-fast-requires c κs = search rules
 
 returns : tie.Need-returns
-unfolding amplitudeOf decimal minusDecimal of_bits neg
+unfolding amplitude_of decimal minus_decimal of_bits neg
 returns c = simp (c.pow-2-fast.ensures, c.before.level-mod.ensures, c.before.before.amp-mod-sensitivity.ensures)
 
-pub amplitude-spec : {M : Type 1} → statement M
-amplitude-spec =
+pub amplitude_spec : {M : Type 1} → statement M
+amplitude_spec =
     tie.close
     (tie.spec amp-mod-sensitivity-requires level-mod-requires pow-2-fast-requires returns)

@@ -12,5 +12,5 @@ move-to-requires c κs = search rules
 returns : tie.Need-returns
 returns c = rw c.move-to.ensures c.before.place.ensures
 
-pub follow-spec : {M : Type 1} → statement M
-follow-spec = tie.close (tie.spec place-requires move-to-requires returns)
+pub follow_spec : {M : Type 1} → statement M
+follow_spec = tie.close (tie.spec place-requires move-to-requires returns)

@@ -2,7 +2,7 @@
 use borrow.Author.Rules.{rules}
 use lib.Ieee.{of_bits}
 use Rattle.numbers.specs.F32.{decimal}
-use Rattle.voice_levels.specs.Levels.{noteFrequency}
+use Rattle.voice_levels.specs.Levels.{note_frequency}
 use Rattle.voice_levels.proofs.note_frequency.Statement.{statement}
 use Rattle.voice_levels.proofs.note_frequency.Tie as tie
 
@@ -10,8 +10,8 @@ semitones-to-ratio-lent-requires : tie.Need-semitones-to-ratio-lent-requires
 semitones-to-ratio-lent-requires c κs = search rules
 
 returns : tie.Need-returns
-unfolding noteFrequency decimal of_bits
+unfolding note_frequency decimal of_bits
 returns c = simp c.semitones-to-ratio-lent.ensures
 
-pub note-frequency-spec : {M : Type 1} → statement M
-note-frequency-spec = tie.close (tie.spec semitones-to-ratio-lent-requires returns)
+pub note_frequency_spec : {M : Type 1} → statement M
+note_frequency_spec = tie.close (tie.spec semitones-to-ratio-lent-requires returns)

@@ -21,6 +21,6 @@ returns c =
     raised_of a.g a.op a.level-headroom a.opcode a.e
     t.rate-scaling.ensures p.place.ensures c.before.scaling.ensures
 
-pub raise-operator-spec : {M : Type 1} → statement M
-raise-operator-spec =
+pub raise_operator_spec : {M : Type 1} → statement M
+raise_operator_spec =
     tie.close (tie.spec rate-scaling-requires place-requires scaling-requires returns)

@@ -6,15 +6,15 @@ use native.Mathlib.Omega.{arith}
 use borrow.Author.Rules.{rules}
 use lib.Ieee.{of_bits}
 use Rattle.numbers.specs.F32.{decimal}
-use Rattle.patch.specs.Form.{operatorAt, noOperator, scalingWith}
-use Rattle.voice_levels.specs.Levels.{put_at, raisedTo}
-use Rattle.voice_levels.proofs.Stages.{stage-at-fits}
-use Rattle.voice_levels.proofs.Calls.{raised-next}
+use Rattle.patch.specs.Form.{operator_at, no_operator, scaling_with}
+use Rattle.voice_levels.specs.Levels.{put_at, raised_to}
+use Rattle.voice_levels.proofs.Stages.{stage_at_fits}
+use Rattle.voice_levels.proofs.Calls.{raised_next}
 use Rattle.voice_levels.proofs.raise_operators.Statement.{statement}
 use Rattle.voice_levels.proofs.raise_operators.Tie as tie
 
 abbrev invariant-loop : tie.invariant-loop
-invariant-loop g operators operator-envelope row op ratios level-headroom l₀ i₀ l i = (i ≤ operators) × (l ≡ raisedTo g op ratios level-headroom row operator-envelope i)
+invariant-loop g operators operator-envelope row op ratios level-headroom l₀ i₀ l i = (i ≤ operators) × (l ≡ raised_to g op ratios level-headroom row operator-envelope i)
 
 abbrev decreases-loop : tie.decreases-loop
 decreases-loop g operators operator-envelope row op ratios level-headroom l₀ i₀ l i = operators - i
@@ -23,7 +23,7 @@ all-as-asked-requires : tie.Need-all-as-asked-requires invariant-loop decreases-
 all-as-asked-requires c κs = search rules
 
 loop-holds : tie.Need-loop-init invariant-loop decreases-loop
-unfolding raisedTo decimal of_bits
+unfolding raised_to decimal of_bits
 loop-holds c = (omega arith, rw c.all-as-asked.ensures refl)
 
 mul-tuned : tie.Need-overflow-mul-tuned invariant-loop decreases-loop
@@ -71,7 +71,7 @@ array-read-raise-operator-2 c = omega arith
 raise-operator-requires : tie.Need-raise-operator-requires invariant-loop decreases-loop
 raise-operator-requires c κs =
     let at = c.before.before.before.before.before.before in
-    stage-at-fits at.before.before.args.t1 at.loop.i at.before.before.requires.1
+    stage_at_fits at.before.before.args.t1 at.loop.i at.before.before.requires.1
 
 move-to-requires : tie.Need-move-to-requires invariant-loop decreases-loop
 move-to-requires c κs = search rules
@@ -95,14 +95,14 @@ loop-less : tie.Need-loop-smaller invariant-loop decreases-loop
 loop-less c = omega arith
 
 loop-again : tie.Need-loop-preserved invariant-loop decreases-loop
-unfolding operatorAt noOperator scalingWith put_at
+unfolding operator_at no_operator scaling_with put_at
 loop-again c =
     let one = c.before in
     let step = one.before.before.before in
     let at = step.before.before.before.before in
     let a = at.before.before.args in (
       omega arith,
-      raised-next a.g a.t5 a.t6 a.t7 a.t2 a.t1 at.loop.i at.loop.invariant.1
+      raised_next a.g a.t5 a.t6 a.t7 a.t2 a.t1 at.loop.i at.loop.invariant.1
           step.before.frequency.ensures step.frequency-step.ensures one.raise-operator.ensures
           c.move-to.ensures,
     )
@@ -112,8 +112,8 @@ returns c =
     let all : c.before.loop.i ≡ c.before.before.before.args.operators = omega arith in
     rw all at c.before.loop.invariant.1
 
-pub raise-operators-spec : {M : Type 1} → statement M
-raise-operators-spec =
+pub raise_operators_spec : {M : Type 1} → statement M
+raise_operators_spec =
     tie.close
     (tie.spec
     invariant-loop

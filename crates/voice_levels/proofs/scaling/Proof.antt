@@ -2,7 +2,7 @@
 use borrow.Author.Rules.{rules}
 use lib.Ieee.{of_bits}
 use Rattle.numbers.specs.F32.{decimal}
-use Rattle.voice_levels.specs.Levels.{scalingOf}
+use Rattle.voice_levels.specs.Levels.{scaling_of}
 use Rattle.voice_levels.proofs.scaling.Statement.{statement}
 use Rattle.voice_levels.proofs.scaling.Tie as tie
 
@@ -19,13 +19,13 @@ f32-min-requires : tie.Need-f32-min-requires
 f32-min-requires c κs = search rules
 
 returns : tie.Need-returns
-unfolding scalingOf decimal of_bits
+unfolding scaling_of decimal of_bits
 returns c =
     let at-keyboard-scaling = c.before.before.before.before in
     simp (c.f32-min.ensures, c.before.brightness-of.ensures, at-keyboard-scaling.keyboard-scaling.ensures)
 
-pub scaling-spec : {M : Type 1} → statement M
-scaling-spec =
+pub scaling_spec : {M : Type 1} → statement M
+scaling_spec =
     tie.close
     (tie.spec
     keyboard-scaling-requires

@@ -2,7 +2,7 @@
 use borrow.Author.Rules.{rules}
 use lib.Ieee.{of_bits}
 use Rattle.numbers.specs.F32.{decimal}
-use Rattle.voice_levels.specs.Levels.{timingFor}
+use Rattle.voice_levels.specs.Levels.{timing_for}
 use Rattle.voice_levels.proofs.timing_for.Statement.{statement}
 use Rattle.voice_levels.proofs.timing_for.Tie as tie
 
@@ -19,13 +19,13 @@ pow-2-fast-requires-2 : tie.Need-pow-2-fast-requires-2
 pow-2-fast-requires-2 c κs = search rules
 
 returns : tie.Need-returns
-unfolding timingFor decimal of_bits
+unfolding timing_for decimal of_bits
 returns c =
     let at-u32-as-f32 = c.before.before.before in
     simp (c.pow-2-fast2.ensures, c.before.f32-abs.ensures, c.before.before.pow-2-fast.ensures, at-u32-as-f32.u32-as-f32.ensures)
 
-pub timing-for-spec : {M : Type 1} → statement M
-timing-for-spec =
+pub timing_for_spec : {M : Type 1} → statement M
+timing_for_spec =
     tie.close
     (tie.spec
     u32-as-f32-requires

@@ -1,6 +1,6 @@
 -- `voice_render::begin` meets its contract. Assumes nothing.
 use borrow.Author.Rules.{rules}
-use Rattle.voice_render.proofs.Blocks.{begun-of}
+use Rattle.voice_render.proofs.Blocks.{begun_of}
 use Rattle.voice_render.proofs.begin.Statement.{statement}
 use Rattle.voice_render.proofs.begin.Tie as tie
 
@@ -20,10 +20,10 @@ returns : tie.Need-returns
 returns c =
     let at-follow = c.before.before.before.before.before in
     let at-timing-for = at-follow.before.before in
-    begun-of _ _ _ _ _ at-timing-for.timing-for.ensures at-follow.follow.ensures
+    begun_of _ _ _ _ _ at-timing-for.timing-for.ensures at-follow.follow.ensures
     c.before.before.note-frequency.ensures c.before.strike.ensures
 
-pub begin-spec : {M : Type 1} → statement M
-begin-spec =
+pub begin_spec : {M : Type 1} → statement M
+begin_spec =
     tie.close
     (tie.spec timing-for-requires follow-requires note-frequency-requires strike-requires returns)

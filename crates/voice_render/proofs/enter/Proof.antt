@@ -1,6 +1,6 @@
 -- `voice_render::enter` meets its contract. Assumes nothing.
 use borrow.Author.Rules.{rules}
-use Rattle.voice_render.proofs.Blocks.{entering-anew, entering-on, all-restarted}
+use Rattle.voice_render.proofs.Blocks.{entering_anew, entering_on, all_restarted_lem}
 use Rattle.voice_render.proofs.enter.Statement.{statement}
 use Rattle.voice_render.proofs.enter.Tie as tie
 
@@ -51,12 +51,12 @@ returns c =
     let at-restart = at-restart2.before.before in
     let at-if1 = at-restart.before.before in
     let at-note-on = at-if1.before.before in
-    entering-anew _ _ at-note-on.note-on.ensures at-if1.if1.true
-    (all-restarted _ at-restart.restart.ensures at-restart2.restart2.ensures at-restart3.restart3.ensures
+    entering_anew _ _ at-note-on.note-on.ensures at-if1.if1.true
+    (all_restarted_lem _ at-restart.restart.ensures at-restart2.restart2.ensures at-restart3.restart3.ensures
     at-restart4.restart4.ensures c.before.before.restart5.ensures c.restart6.ensures)
 
 returns-2 : tie.Need-returns-2
-returns-2 c = entering-on _ _ c.before.before.note-on.ensures c.if1.false
+returns-2 c = entering_on _ _ c.before.before.note-on.ensures c.if1.false
 
 pub enter_spec : {M : Type 1} → statement M
 enter_spec =

@@ -1,8 +1,8 @@
 -- `voice_render::parameters_fit` meets its contract. Assumes nothing.
 use borrow.Author.Rules.{rules}
-use Rattle.voice_render.specs.Answers.{parametersFit}
+use Rattle.voice_render.specs.Answers.{parameters_fit}
 use mathlib.Core.Path.{refl}
-use Rattle.numbers.specs.F32.{decimal, minusDecimal}
+use Rattle.numbers.specs.F32.{decimal, minus_decimal}
 use lib.Ieee.{of_bits, neg}
 use Rattle.voice_render.proofs.parameters_fit.Statement.{statement}
 use Rattle.voice_render.proofs.parameters_fit.Tie as tie
@@ -26,7 +26,7 @@ unit-fits-requires-4 : tie.Need-unit-fits-requires-4
 unit-fits-requires-4 c κs = search rules
 
 returns : tie.Need-returns
-unfolding parametersFit decimal minusDecimal of_bits neg
+unfolding parameters_fit decimal minus_decimal of_bits neg
 returns c =
     let at-unit-fits3 = c.before.before in
     let at-unit-fits2 = at-unit-fits3.before in
@@ -40,8 +40,8 @@ returns c =
       at-unit-fits.before.note-fits.ensures,
     ) refl
 
-pub parameters-fit-spec : {M : Type 1} → statement M
-parameters-fit-spec =
+pub parameters_fit_spec : {M : Type 1} → statement M
+parameters_fit_spec =
     tie.close
     (tie.spec
     note-fits-requires

@@ -1,6 +1,6 @@
 -- `voice_render::render` meets its contract. Assumes nothing.
 use borrow.Author.Rules.{rules}
-use Rattle.voice_render.proofs.Blocks.{with-tables}
+use Rattle.voice_render.proofs.Blocks.{with_tables}
 use Rattle.voice_render.proofs.render.Statement.{statement}
 use Rattle.voice_render.proofs.render.Tie as tie
 
@@ -24,11 +24,11 @@ returns c =
     let at-lut-pitch-ratio-low = c.before.before.before.before.before.before.before in
     let at-lut-pitch-ratio-high = at-lut-pitch-ratio-low.before in
     let at-sine-pairs = at-lut-pitch-ratio-high.before in
-    with-tables _ _ _ at-sine-pairs.sine-pairs.ensures at-lut-pitch-ratio-high.lut-pitch-ratio-high.ensures
+    with_tables _ _ _ at-sine-pairs.sine-pairs.ensures at-lut-pitch-ratio-high.lut-pitch-ratio-high.ensures
     at-lut-pitch-ratio-low.lut-pitch-ratio-low.ensures c.before.before.render-with.ensures
 
-pub render-spec : {M : Type 1} → statement M
-render-spec =
+pub render_spec : {M : Type 1} → statement M
+render_spec =
     tie.close
     (tie.spec
     sine-pairs-requires

@@ -3,7 +3,7 @@ use borrow.Author.Rules.{rules}
 use mathlib.Core.Path.{sym, subst}
 use lib.Dec.{T}
 use Rattle.voice.proofs.Tests.{refused, accepted}
-use Rattle.voice_render.proofs.Blocks.{not-sounded, render-9, render-8, render-7, render-blank, render-sound}
+use Rattle.voice_render.proofs.Blocks.{not_sounded, render_9, render_8, render_7, render_blank, render_sound}
 use Rattle.voice_render.proofs.render_with.Statement.{statement}
 use Rattle.voice_render.proofs.render_with.Tie as tie
 
@@ -16,8 +16,8 @@ unheard-requires c κs = search rules
 returns : tie.Need-returns
 returns c =
     let at-if1 = c.before in
-    not-sounded c.unheard.ensures
-    (render-9 _ _ _ _ _ _ (refused at-if1.before.state-fits.ensures at-if1.if1.true))
+    not_sounded c.unheard.ensures
+    (render_9 _ _ _ _ _ _ (refused at-if1.before.state-fits.ensures at-if1.if1.true))
 
 block-fits-requires : tie.Need-block-fits-requires
 block-fits-requires c κs = search rules
@@ -29,8 +29,8 @@ returns-2 : tie.Need-returns-2
 returns-2 c =
     let at-if2 = c.before in
     let at-if1 = at-if2.before.before in
-    not-sounded c.unheard2.ensures
-    (render-8 _ _ _ _ _ _ (accepted at-if1.before.state-fits.ensures at-if1.if1.false)
+    not_sounded c.unheard2.ensures
+    (render_8 _ _ _ _ _ _ (accepted at-if1.before.state-fits.ensures at-if1.if1.false)
     (refused at-if2.before.block-fits.ensures at-if2.if2.true))
 
 parameters-fit-for-requires : tie.Need-parameters-fit-for-requires
@@ -44,8 +44,8 @@ returns-3 c =
     let at-if3 = c.before in
     let at-if2 = at-if3.before.before in
     let at-if1 = at-if2.before.before in
-    not-sounded c.unheard3.ensures
-    (render-7 _ _ _ _ _ _ (accepted at-if1.before.state-fits.ensures at-if1.if1.false)
+    not_sounded c.unheard3.ensures
+    (render_7 _ _ _ _ _ _ (accepted at-if1.before.state-fits.ensures at-if1.if1.false)
     (accepted at-if2.before.block-fits.ensures at-if2.if2.false)
     (refused at-if3.before.parameters-fit-for.ensures at-if3.if3.true))
 
@@ -64,8 +64,8 @@ returns-4 c =
     let at-if3 = at-if4.before in
     let at-if2 = at-if3.before.before in
     let at-if1 = at-if2.before.before in
-    not-sounded c.unheard4.ensures
-    (render-blank _ _ _ _ _ _ (accepted at-if1.before.state-fits.ensures at-if1.if1.false)
+    not_sounded c.unheard4.ensures
+    (render_blank _ _ _ _ _ _ (accepted at-if1.before.state-fits.ensures at-if1.if1.false)
     (accepted at-if2.before.block-fits.ensures at-if2.if2.false)
     (accepted at-if3.before.parameters-fit-for.ensures at-if3.if3.false) at-if4.if4.true
     c.before.set-up.ensures)
@@ -98,13 +98,13 @@ returns-5 c =
     let at-block-fits = at-if2.before in
     let at-if1 = at-block-fits.before in
     let at-state-fits = at-if1.before in
-    render-sound _ _ _ _ _ _ (accepted at-state-fits.state-fits.ensures at-if1.if1.false)
+    render_sound _ _ _ _ _ _ (accepted at-state-fits.state-fits.ensures at-if1.if1.false)
     (accepted at-block-fits.block-fits.ensures at-if2.if2.false)
     (accepted at-parameters-fit-for.parameters-fit-for.ensures at-if3.if3.false) at-if4.if4.false
     at-played-by.played-by.ensures c.before.before.render-sounding.ensures
 
-pub render-with-spec : {M : Type 1} → statement M
-render-with-spec =
+pub render_with_spec : {M : Type 1} → statement M
+render_with_spec =
     tie.close
     (tie.spec
     state-fits-requires

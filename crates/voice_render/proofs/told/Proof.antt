@@ -13,5 +13,5 @@ returns c = simp (eq-eqb _ 0 c.before.if1.true, c.all-as-asked.ensures)
 returns-2 : tie.Need-returns-2
 returns-2 c = simp (ne_eqb _ 0 c.if1.false)
 
-pub told-spec : {M : Type 1} → statement M
-told-spec = tie.close (tie.spec all-as-asked-requires returns returns-2)
+pub told_spec : {M : Type 1} → statement M
+told_spec = tie.close (tie.spec all-as-asked-requires returns returns-2)

@@ -10,5 +10,5 @@ all-as-asked-requires c κs = search rules
 returns : tie.Need-returns
 returns c = rw c.all-as-asked.ensures refl
 
-pub unheard-spec : {M : Type 1} → statement M
-unheard-spec = tie.close (tie.spec all-as-asked-requires returns)
+pub unheard_spec : {M : Type 1} → statement M
+unheard_spec = tie.close (tie.spec all-as-asked-requires returns)

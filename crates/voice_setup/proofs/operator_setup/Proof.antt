@@ -1,7 +1,7 @@
 -- `voice_setup::operator_setup` meets its contract. Assumes nothing.
 use borrow.Author.Rules.{rules}
-use Rattle.dx_units_inner.proofs.Chart.{level-at-most-127}
-use Rattle.voice_setup.proofs.Operators.{limits, set-up}
+use Rattle.dx_units_inner.proofs.Chart.{level_at_most_127}
+use Rattle.voice_setup.proofs.Operators.{limits, set_up_lem}
 use Rattle.voice_setup.proofs.operator_setup.Statement.{statement}
 use Rattle.voice_setup.proofs.operator_setup.Tie as tie
 
@@ -17,7 +17,7 @@ headroom-requires : tie.Need-headroom-requires
 headroom-requires c κs =
     let at-operator-level = c.before.before.before.before in
     let at_pre = at-operator-level.before in
-    rw at-operator-level.operator-level.ensures (level-at-most-127 _ (limits _ at_pre.requires.1).level)
+    rw at-operator-level.operator-level.ensures (level_at_most_127 _ (limits _ at_pre.requires.1).level)
 
 frequency-ratio-requires : tie.Need-frequency-ratio-requires
 frequency-ratio-requires c κs =
@@ -27,11 +27,11 @@ frequency-ratio-requires c κs =
 returns : tie.Need-returns
 returns c =
     let at-operator-level = c.before.before.before.before.before.before in
-    set-up _ _ _ _ at-operator-level.operator-level.ensures c.before.before.operator-set.ensures
+    set_up_lem _ _ _ _ at-operator-level.operator-level.ensures c.before.before.operator-set.ensures
     c.before.headroom.ensures c.frequency-ratio.ensures
 
-pub operator-setup-spec : {M : Type 1} → statement M
-operator-setup-spec =
+pub operator_setup_spec : {M : Type 1} → statement M
+operator_setup_spec =
     tie.close
     (tie.spec
     operator-level-requires

@@ -3,16 +3,16 @@ use native.Mathlib.Omega.{arith}
 use mathlib.Core.Path.{◌≡◌, refl}
 use Prim.Native.Nat.{◌-◌, ◌≤◌}
 use borrow.Author.Rules.{rules}
-use Rattle.voice_setup.specs.Setup.{put_at, setUpTo}
-use Rattle.patch.specs.Form.{operatorAt, noOperator, scalingWith}
-use Rattle.voice_setup.proofs.Operators.{operator-at-fits, set-up-next}
+use Rattle.voice_setup.specs.Setup.{put_at, set_up_to}
+use Rattle.patch.specs.Form.{operator_at, no_operator, scaling_with}
+use Rattle.voice_setup.proofs.Operators.{operator_at_fits, set_up_next}
 use Rattle.voice_setup.proofs.setup_operators.Statement.{statement}
 use Rattle.voice_setup.proofs.setup_operators.Tie as tie
 use Rattle.voice_setup.proofs.operator_setup.Reads as operator-setup-reads
 
 abbrev invariant-loop : tie.invariant-loop
 invariant-loop high low operators op s₀ chart i₀ s i =
-    (i ≤ operators) × (s ≡ setUpTo high low op i s₀)
+    (i ≤ operators) × (s ≡ set_up_to high low op i s₀)
 
 abbrev decreases-loop : tie.decreases-loop
 decreases-loop high low operators op s₀ chart i₀ s i = operators - i
@@ -21,7 +21,7 @@ level-chart-requires : tie.Need-level-chart-requires invariant-loop decreases-lo
 level-chart-requires c κs = search rules
 
 loop-holds : tie.Need-loop-init invariant-loop decreases-loop
-unfolding setUpTo
+unfolding set_up_to
 loop-holds c = (omega arith, refl)
 
 mul-e : tie.Need-overflow-mul-e invariant-loop decreases-loop
@@ -37,10 +37,10 @@ array-copy-out-o : tie.Need-array-copy-out-o invariant-loop decreases-loop
 array-copy-out-o c = omega arith
 
 operator-setup-requires : tie.Need-operator-setup-requires invariant-loop decreases-loop
-unfolding operatorAt noOperator scalingWith
+unfolding operator_at no_operator scaling_with
 operator-setup-requires c κs =
     let at-chart = c.before.before.before.before.before in
-    (at-chart.level-chart.ensures, operator-at-fits _ _ (omega arith) at-chart.before.requires.1)
+    (at-chart.level-chart.ensures, operator_at_fits _ _ (omega arith) at-chart.before.requires.1)
 
 mul-envelope : tie.Need-overflow-mul-envelope invariant-loop decreases-loop
 mul-envelope c = omega arith
@@ -67,19 +67,19 @@ loop-less : tie.Need-loop-smaller invariant-loop decreases-loop
 loop-less c = omega arith
 
 loop-again : tie.Need-loop-preserved invariant-loop decreases-loop
-unfolding operatorAt noOperator scalingWith put_at
+unfolding operator_at no_operator scaling_with put_at
 loop-again c =
     let far = c.before.before.before.before in
     let at-loop = far.before.before.before in
-    (omega (arith, far), set-up-next _ _ _ _ _ at-loop.loop.invariant.1 c.before.before.operator-setup.ensures)
+    (omega (arith, far), set_up_next _ _ _ _ _ at-loop.loop.invariant.1 c.before.before.operator-setup.ensures)
 
 returns : tie.Need-returns invariant-loop decreases-loop
 returns c =
     let i : c.before.loop.i ≡ c.before.before.before.args.operators = omega arith in
     rw i at c.before.loop.invariant.1
 
-pub setup-operators-spec : {M : Type 1} → statement M
-setup-operators-spec =
+pub setup_operators_spec : {M : Type 1} → statement M
+setup_operators_spec =
     tie.close
     (tie.spec
     invariant-loop

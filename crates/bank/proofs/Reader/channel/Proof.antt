@@ -42,7 +42,7 @@ use denote.Triple.Clauses.{ensured, lasts}
 use Rattle.dump.specs.declared.Opened.{Opened}
 use Rattle.dump.specs.contracts.Opened as O
 use Rattle.dump.proofs.Opened.TheLaws as O'
-use Rattle.bank.specs.Bank.{channelOf}
+use Rattle.bank.specs.Bank.{channel_of}
 use Rattle.bank.specs.declared.Reader.{Reader}
 use Rattle.bank.proofs.Readers.{Dump, lends}
 use Rattle.bank.specs.contracts.Reader as T
@@ -80,7 +80,7 @@ module _ {M : Type 1} {𝓤 : Ura M} (𝓛 : Logic 𝓤) (mem : Memory → SProp
   v = slice_val d.dump.ref_ptr (length d.dump.now)
 
   abbrev found : Opened
-  found = channelOf d.dump.now
+  found = channel_of d.dump.now
 
   abbrev Post : Val → SProp 𝓤
   Post =
@@ -160,10 +160,10 @@ module _ {M : Type 1} {𝓤 : Ura M} (𝓛 : Logic 𝓤) (mem : Memory → SProp
     (run : Routine → Fun 𝓤) where
   open 𝓛 use {H}
 
-  channel-walks : (C : Calls 𝓤 H) (Λ : Loops 𝓤 H) → FmC 𝓤 H 𝓛.laws C
+  channel_walks : (C : Calls 𝓤 H) (Λ : Loops 𝓤 H) → FmC 𝓤 H 𝓛.laws C
       → Triple 𝓤 (C #bank·channel) (ChannelAt 𝓛 mem run)
       → Walks 𝓛 channel.ended stayed (WpFn 𝓤 H C Λ code.function) (channel.clauses 𝓛 mem run)
-  channel-walks C Λ fm known =
+  channel_walks C Λ fm known =
       walked 𝓛 channel.ended stayed (channel.clauses 𝓛 mem run) (WpFn 𝓤 H C Λ code.function)
       (λ κs. (LL.vals (T.the_type (named_lft 1 0 tt κs)) (T'.the_laws (named_lft 1 0 tt κs)), tt))
       (λ κs. (LL.tells (T.the_type (named_lft 1 0 tt κs)) (T'.the_laws (named_lft 1 0 tt κs)), tt))
@@ -172,20 +172,20 @@ module _ {M : Type 1} {𝓤 : Ura M} (𝓛 : Logic 𝓤) (mem : Memory → SProp
       ((LL.lawful (T.the_type (named_lft 1 0 tt κs)) (T'.the_laws (named_lft 1 0 tt κs)) 𝓛).typed a.0 _
       are.0).0))
 
-channel-meets : {M : Type 1} {𝓤 : Ura M} (𝓛 : Logic 𝓤) (mem : Memory → SProp 𝓤)
+channel_meets : {M : Type 1} {𝓤 : Ura M} (𝓛 : Logic 𝓤) (mem : Memory → SProp 𝓤)
     (run : Routine → Fun 𝓤) (𝓣 : Tables 𝓤 𝓛.H)
     → Triple 𝓤 (𝓣.C #bank·channel) (ChannelAt 𝓛 mem run)
     → Meets 𝓛 channel.signature (WpFn 𝓤 𝓛.H 𝓣.C 𝓣.Λ code.function) (channel.spec 𝓛 mem run)
-channel-meets {𝓤 = 𝓤} 𝓛 mem run 𝓣 known-callee =
+channel_meets {𝓤 = 𝓤} 𝓛 mem run 𝓣 known-callee =
     walk_Meets 𝓛 channel.ended stayed (Goes-none 𝓛 1 B yes (λ κs x f. refl), tt)
     (channel.clauses 𝓛 mem run) (WpFn 𝓤 𝓛.H 𝓣.C 𝓣.Λ code.function) (WpFn-mono 𝓤 𝓛.H 𝓛.laws 𝓣 code.function)
-    (channel-walks 𝓛 mem run 𝓣.C 𝓣.Λ (fm_of 𝓤 𝓛.H 𝓛.laws 𝓣) known-callee)
+    (channel_walks 𝓛 mem run 𝓣.C 𝓣.Λ (fm_of 𝓤 𝓛.H 𝓛.laws 𝓣) known-callee)
 
-pub channel-spec : {M : Type 1} → stated.statement M
+pub channel_spec : {M : Type 1} → stated.statement M
 unfolding code.routine tables_of
-channel-spec 𝓤 𝓛 𝓜 𝓡 =
+channel_spec 𝓤 𝓛 𝓜 𝓡 =
     entered 𝓤 𝓛.H (triple_of 𝓛 channel.signature (channel.spec 𝓛 𝓜.mem 𝓡.run))
     (tables 𝓤 𝓛.H 𝓜 𝓡 code.env).C (tables 𝓤 𝓛.H 𝓜 𝓡 code.env).Λ #bank·Reader·channel code.function (code.unfolded 𝓤 𝓛.H 𝓜 𝓡)
-    (channel-meets 𝓛 𝓜.mem 𝓡.run (tables_of 𝓤 𝓛.H 𝓜 (tables 𝓤 𝓛.H 𝓜 𝓡 code.env))
+    (channel_meets 𝓛 𝓜.mem 𝓡.run (tables_of 𝓤 𝓛.H 𝓜 (tables 𝓤 𝓛.H 𝓜 𝓡 code.env))
     (cited 𝓤 𝓛.H (ChannelAt 𝓛 𝓜.mem 𝓡.run) 𝓜 𝓡 code.env #bank·channel callee-def.routine
     code.calls-bank::channel (callee-thm.met 𝓤 𝓛 𝓜 𝓡)))

@@ -142,27 +142,27 @@ module _ {M : Type 1} {𝓤 : Ura M} (𝓛 : Logic 𝓤) (mem : Memory → SProp
 module _ {M : Type 1} {𝓤 : Ura M} (𝓛 : Logic 𝓤) (mem : Memory → SProp 𝓤) (run : Routine → Fun 𝓤) where
   open 𝓛 use {H}
 
-  number-walks : (C : Calls 𝓤 H) (Λ : Loops 𝓤 H) → FmC 𝓤 H 𝓛.laws C
+  number_walks : (C : Calls 𝓤 H) (Λ : Loops 𝓤 H) → FmC 𝓤 H 𝓛.laws C
       → Triple 𝓤 (C #bank·number) (NumberAt 𝓛 mem run)
       → Walks 𝓛 number.ended stayed (WpFn 𝓤 H C Λ code.function) (number.clauses 𝓛 mem run)
-  number-walks C Λ fm known =
+  number_walks C Λ fm known =
       walked 𝓛 number.ended stayed (number.clauses 𝓛 mem run) (WpFn 𝓤 H C Λ code.function)
       (λ κs. (LL.vals (T.the_type (named_lft 1 0 tt κs)) (T'.the_laws (named_lft 1 0 tt κs)), tt))
       (λ κs. (LL.tells (T.the_type (named_lft 1 0 tt κs)) (T'.the_laws (named_lft 1 0 tt κs)), tt))
       (λ κs qs bounds a g are. via 𝓤 _ (fst∗ 𝓤 _ (emp 𝓤)) (walk 𝓛 mem run κs.0 qs.0 a.0 C Λ fm known ((LL.lawful (T.the_type (named_lft 1 0 tt κs)) (T'.the_laws (named_lft 1 0 tt κs)) 𝓛).typed a.0 _ are.0).0))
 
-number-meets : {M : Type 1} {𝓤 : Ura M} (𝓛 : Logic 𝓤) (mem : Memory → SProp 𝓤) (run : Routine → Fun 𝓤) (𝓣 : Tables 𝓤 𝓛.H)
+number_meets : {M : Type 1} {𝓤 : Ura M} (𝓛 : Logic 𝓤) (mem : Memory → SProp 𝓤) (run : Routine → Fun 𝓤) (𝓣 : Tables 𝓤 𝓛.H)
     → Triple 𝓤 (𝓣.C #bank·number) (NumberAt 𝓛 mem run)
     → Meets 𝓛 number.signature (WpFn 𝓤 𝓛.H 𝓣.C 𝓣.Λ code.function) (number.spec 𝓛 mem run)
-number-meets {𝓤 = 𝓤} 𝓛 mem run 𝓣 known-callee =
+number_meets {𝓤 = 𝓤} 𝓛 mem run 𝓣 known-callee =
     walk_Meets 𝓛 number.ended stayed (Goes-none 𝓛 1 B yes (λ κs x f. refl), tt)
     (number.clauses 𝓛 mem run) (WpFn 𝓤 𝓛.H 𝓣.C 𝓣.Λ code.function) (WpFn-mono 𝓤 𝓛.H 𝓛.laws 𝓣 code.function)
-    (number-walks 𝓛 mem run 𝓣.C 𝓣.Λ (fm_of 𝓤 𝓛.H 𝓛.laws 𝓣) known-callee)
+    (number_walks 𝓛 mem run 𝓣.C 𝓣.Λ (fm_of 𝓤 𝓛.H 𝓛.laws 𝓣) known-callee)
 
-pub number-spec : {M : Type 1} → stated.statement M
+pub number_spec : {M : Type 1} → stated.statement M
 unfolding code.routine tables_of
-number-spec 𝓤 𝓛 𝓜 𝓡 =
+number_spec 𝓤 𝓛 𝓜 𝓡 =
     entered 𝓤 𝓛.H (triple_of 𝓛 number.signature (number.spec 𝓛 𝓜.mem 𝓡.run))
     (tables 𝓤 𝓛.H 𝓜 𝓡 code.env).C (tables 𝓤 𝓛.H 𝓜 𝓡 code.env).Λ #bank·Reader·number code.function (code.unfolded 𝓤 𝓛.H 𝓜 𝓡)
-    (number-meets 𝓛 𝓜.mem 𝓡.run (tables_of 𝓤 𝓛.H 𝓜 (tables 𝓤 𝓛.H 𝓜 𝓡 code.env))
+    (number_meets 𝓛 𝓜.mem 𝓡.run (tables_of 𝓤 𝓛.H 𝓜 (tables 𝓤 𝓛.H 𝓜 𝓡 code.env))
     (cited 𝓤 𝓛.H (NumberAt 𝓛 𝓜.mem 𝓡.run) 𝓜 𝓡 code.env #bank·number callee-def.routine code.calls-bank::number (callee-thm.met 𝓤 𝓛 𝓜 𝓡)))

@@ -149,9 +149,9 @@ module _ {M : Type 1} {𝓤 : Ura M} (𝓛 : Logic 𝓤) (mem : Memory → SProp
 module _ {M : Type 1} {𝓤 : Ura M} (𝓛 : Logic 𝓤) (mem : Memory → SProp 𝓤) (run : Routine → Fun 𝓤) where
   open 𝓛 use {H}
 
-  part-walks : (C : Calls 𝓤 H) (Λ : Loops 𝓤 H) → FmC 𝓤 H 𝓛.laws C → Triple 𝓤 (C #bank·part) (PartAt 𝓛 mem run)
+  part_walks : (C : Calls 𝓤 H) (Λ : Loops 𝓤 H) → FmC 𝓤 H 𝓛.laws C → Triple 𝓤 (C #bank·part) (PartAt 𝓛 mem run)
       → Walks 𝓛 part.ended stayed (WpFn 𝓤 H C Λ code.function) (part.clauses 𝓛 mem run)
-  part-walks C Λ fm known =
+  part_walks C Λ fm known =
       walked 𝓛 part.ended stayed (part.clauses 𝓛 mem run) (WpFn 𝓤 H C Λ code.function)
       (λ κs. (LL.vals (T.the_type (named_lft 1 0 tt κs)) (T'.the_laws (named_lft 1 0 tt κs)), tt))
       (λ κs. (LL.tells (T.the_type (named_lft 1 0 tt κs)) (T'.the_laws (named_lft 1 0 tt κs)), tt))
@@ -163,11 +163,11 @@ part_meets : {M : Type 1} {𝓤 : Ura M} (𝓛 : Logic 𝓤) (mem : Memory → S
 part_meets {𝓤 = 𝓤} 𝓛 mem run 𝓣 known-callee =
     walk_Meets 𝓛 part.ended stayed (Goes-none 𝓛 1 B yes (λ κs x f. refl), tt) (part.clauses 𝓛 mem run)
     (WpFn 𝓤 𝓛.H 𝓣.C 𝓣.Λ code.function) (WpFn-mono 𝓤 𝓛.H 𝓛.laws 𝓣 code.function)
-    (part-walks 𝓛 mem run 𝓣.C 𝓣.Λ (fm_of 𝓤 𝓛.H 𝓛.laws 𝓣) known-callee)
+    (part_walks 𝓛 mem run 𝓣.C 𝓣.Λ (fm_of 𝓤 𝓛.H 𝓛.laws 𝓣) known-callee)
 
-pub part-spec : {M : Type 1} → stated.statement M
+pub part_spec : {M : Type 1} → stated.statement M
 unfolding code.routine tables_of
-part-spec 𝓤 𝓛 𝓜 𝓡 =
+part_spec 𝓤 𝓛 𝓜 𝓡 =
     entered 𝓤 𝓛.H (triple_of 𝓛 part.signature (part.spec 𝓛 𝓜.mem 𝓡.run))
     (tables 𝓤 𝓛.H 𝓜 𝓡 code.env).C (tables 𝓤 𝓛.H 𝓜 𝓡 code.env).Λ #bank·Reader·part code.function (code.unfolded 𝓤 𝓛.H 𝓜 𝓡)
     (part_meets 𝓛 𝓜.mem 𝓡.run (tables_of 𝓤 𝓛.H 𝓜 (tables 𝓤 𝓛.H 𝓜 𝓡 code.env))

@@ -31,7 +31,7 @@ loop-again c = omega arith
 returns : tie.Need-returns invariant-loop decreases-loop
 returns c = tt
 
-pub played-spec : {M : Type 1} → statement M
-played-spec =
+pub played_spec : {M : Type 1} → statement M
+played_spec =
     tie.close
     (tie.spec invariant-loop decreases-loop loop-holds stepped-requires add-counter loop-less loop-again returns)

@@ -45,8 +45,8 @@ loop-again c = omega arith
 returns-2 : tie.Need-returns-2 invariant-loop decreases-loop
 returns-2 c = tt
 
-pub rows-spec : {M : Type 1} → statement M
-rows-spec =
+pub rows_spec : {M : Type 1} → statement M
+rows_spec =
     tie.close
     (tie.spec
     invariant-loop

@@ -1,6 +1,6 @@
 -- `cases_run::plans::show` meets its contract. Assumes nothing.
 use mathlib.Core.Path.{refl}
-use Rattle.plan_text.proofs.Pieces.{printed-within, printed-part}
+use Rattle.plan_text.proofs.Pieces.{printed_within, printed_part}
 use borrow.Author.Rules.{rules}
 use Rattle.cases_run.proofs.plans.show.Statement.{statement}
 use Rattle.cases_run.proofs.plans.show.Tie as tie
@@ -12,10 +12,10 @@ print-requires : tie.Need-print-requires
 print-requires c κs = search rules
 
 array-share-prefix-out : tie.Need-array-share-prefix-out
-array-share-prefix-out c = printed-within _ _ _ _ refl c.print.ensures
+array-share-prefix-out c = printed_within _ _ _ _ refl c.print.ensures
 
 slice-aggregate-write : tie.Need-slice-aggregate-write
-slice-aggregate-write c = printed-part _ _ _ _ refl c.before.print.ensures
+slice-aggregate-write c = printed_part _ _ _ _ refl c.before.print.ensures
 
 write-requires : tie.Need-write-requires
 write-requires c κs = search rules
@@ -23,8 +23,8 @@ write-requires c κs = search rules
 returns-2 : tie.Need-returns-2
 returns-2 c = search rules
 
-pub show-spec : {M : Type 1} → statement M
-show-spec =
+pub show_spec : {M : Type 1} → statement M
+show_spec =
     tie.close
     (tie.spec
     returns

@@ -32,8 +32,8 @@ loop-again c = tt
 returns-2 : tie.Need-returns-2 invariant-loop decreases-loop
 returns-2 c = tt
 
-pub texts-below-spec : {M : Type 1} → statement M
-texts-below-spec =
+pub texts_below_spec : {M : Type 1} → statement M
+texts_below_spec =
     tie.close
     (tie.spec
     invariant-loop

@@ -30,8 +30,8 @@ returns c = tt
 returns-2 : tie.Need-returns-2 invariant-loop decreases-loop
 returns-2 c = tt
 
-pub drain-spec : {M : Type 1} → statement M
-drain-spec =
+pub drain_spec : {M : Type 1} → statement M
+drain_spec =
     tie.close
     (tie.spec
     invariant-loop

@@ -42,8 +42,8 @@ same-length-3 c = omega arith
 returns-3 : tie.Need-returns-3 invariant-loop decreases-loop
 returns-3 c = tt
 
-pub print-messages-spec : {M : Type 1} → statement M
-print-messages-spec =
+pub print_messages_spec : {M : Type 1} → statement M
+print_messages_spec =
     tie.close
     (tie.spec
     invariant-loop

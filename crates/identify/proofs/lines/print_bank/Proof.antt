@@ -33,8 +33,8 @@ loop-again c = omega arith
 returns-2 : tie.Need-returns-2 invariant-loop decreases-loop
 returns-2 c = tt
 
-pub print-bank-spec : {M : Type 1} → statement M
-print-bank-spec =
+pub print_bank_spec : {M : Type 1} → statement M
+print_bank_spec =
     tie.close
     (tie.spec
     invariant-loop

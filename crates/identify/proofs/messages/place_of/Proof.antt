@@ -33,8 +33,8 @@ loop-again c = omega arith
 returns-3 : tie.Need-returns-3 invariant-loop decreases-loop
 returns-3 c = omega arith
 
-pub place-of-spec : {M : Type 1} → statement M
-place-of-spec =
+pub place_of_spec : {M : Type 1} → statement M
+place_of_spec =
     tie.close
     (tie.spec
     invariant-loop

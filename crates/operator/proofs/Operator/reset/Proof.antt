@@ -11,5 +11,5 @@ returns : tie.Need-returns
 unfolding still decimal of_bits
 returns c = refl
 
-pub reset-spec : {M : Type 1} → statement M
-reset-spec = tie.close (tie.spec returns)
+pub reset_spec : {M : Type 1} → statement M
+reset_spec = tie.close (tie.spec returns)
