@@ -4,6 +4,8 @@
 // buffers, the output or a scratch buffer, and is modulated by what an earlier one left in such a buffer, or by
 // feedback. A renderer is a loop made for one shape of call; the Rust looks its renderers up in a table, here a few
 // tests decide.
+#![tactic(auto)]
+
 ghost use Rattle.std.specs.Prelude.{◌≡◌, true, false, not, ◌&&◌, ◌||◌, [], ◌∷◌, ◌+◌, ◌≤◌, ◌<◌, length, get_or, take};
 ghost use Rattle.algorithms.specs.Opcode.{destination, adding, source, flagged, modulating};
 ghost use Rattle.algorithms.specs.Chain.{row_from, Within, unmet, grown, reused, chained, call_length, rendered};
@@ -13,7 +15,7 @@ ghost use Rattle.algorithms.specs.Table.{six, tabled, row_of, with_row, compiled
 
 // One call of a plan: n operators from `first` on, their input and output, and whether they add to the output or set
 // it. The input is the source: 0 none, 1 and 2 a buffer, 3 feedback. A feedback call's origin is its last operator.
-#[derive(Drop)]
+#[derive(Clone, Copy)]
 pub struct Call {
     pub first: u8,
     pub n: u8,
@@ -23,14 +25,14 @@ pub struct Call {
 }
 
 // A row's calls in order; the calls behind `count` are zero.
-#[derive(Drop)]
+#[derive(Clone, Copy)]
 pub struct Plan {
     pub count: u8,
     pub calls: [Call; 6],
 }
 
 // A row's plan, or the number and the operator of its refusal with the zero plan.
-#[derive(Drop)]
+#[derive(Clone, Copy)]
 pub struct Planned {
     pub number: u8,
     pub at: u8,
@@ -38,7 +40,7 @@ pub struct Planned {
 }
 
 // The same with the row's bytes, zero behind the last operator and on a refusal.
-#[derive(Drop)]
+#[derive(Clone, Copy)]
 pub struct Compiled {
     pub number: u8,
     pub at: u8,
@@ -47,7 +49,7 @@ pub struct Compiled {
 }
 
 // Whether an operator of a row modulates others; false where there is no such operator.
-#[derive(Drop)]
+#[derive(Clone, Copy)]
 pub struct Asked {
     pub number: u8,
     pub modulates: bool,

@@ -2,6 +2,8 @@
 // Each function promises the table of specs/, byte for byte. A row is an algorithm, its bytes the operators from the
 // highest number down. Above it stands what it says: 6>5 is 6 modulating 5, (6 + 5)>4 the sum of both modulating 4, a
 // comma parts what is heard, and feedback at 6 is 6 modulating itself.
+#![tactic(auto)]
+
 ghost use Rattle.std.specs.Prelude.{◌≡◌};
 ghost use Rattle.algorithms_opcodes.specs.Opcodes.{four_operators, six_operators};
 

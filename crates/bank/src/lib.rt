@@ -1,6 +1,8 @@
 // A bank, a dump of 32 packed patches, its channel, and a slot in it. Added by us: no Rust file. Each entry is what
 // specs/Bank says, for sound and damaged dumps alike. Numbers given back: 2 slot above 31, 10 wrong length, 11 wrong
 // frame byte, 12 data byte above 127, 13 wrong checksum.
+#![tactic(auto)]
+
 ghost use Rattle.std.specs.Prelude.{◌≡◌, ◌+◌, ◌≤◌, length};
 ghost use Rattle.bank.specs.Bank.{bank_form, validate_of, number_of, channel_of, slot_of, slot_at, Handed};
 
@@ -61,7 +63,7 @@ pub fn part<'a>(dump: &'a [u8], slot: usize) -> &'a [u8]
 }
 
 // The named form: the borrowed dump and a slot number. Its functions take it apart and call those above.
-#[derive(Drop)]
+#[derive(Clone, Copy)]
 pub struct Reader<'a> {
     pub dump: &'a [u8],
     pub slot: usize,

@@ -2,6 +2,8 @@
 // the end whether the dump was sound. Added by us: no Rust file. Each entry is what specs/Pieces says, for every state,
 // every piece and every buffer. Numbers given back: 9 a reader that has ended, or that no pieces leave so; at the end
 // 10 wrong length, 11 wrong frame byte, 12 data byte above 127, 13 wrong checksum.
+#![tactic(auto)]
+
 ghost use Rattle.std.specs.Prelude.{◌≡◌, true, false, ◌+◌, ◌-◌, ◌≤◌, ◌<◌, min, length};
 ghost use Rattle.bank_pieces.specs.Pieces.{fresh, possible, is_right, frame_with, summed_with, checked_with};
 ghost use Rattle.bank_pieces.specs.Pieces.{passed, passed_all, place_in, slot_at, took, take_of, end_of, closing};
@@ -9,7 +11,7 @@ ghost use Rattle.bank_pieces.specs.Pieces.{passed, passed_all, place_in, slot_at
 // A reader between two pieces. How many bytes came: the count stops at the largest number. The frame: the third byte
 // once it came, or 255 once another byte of the frame was wrong. The sum of the patches reported, modulo 128, and 128
 // more once one of their bytes was above 127; behind the checksum what that leaves of it. Whether the end was told.
-#[derive(Drop)]
+#[derive(Clone, Copy)]
 pub struct Receiver {
     pub count: usize,
     pub frame: u8,
@@ -19,7 +21,7 @@ pub struct Receiver {
 
 // What a piece gives: its number, the reader behind it, how many bytes were taken, and whether they end a patch, which
 // then stands in the lent buffer, and in which slot.
-#[derive(Drop)]
+#[derive(Clone, Copy)]
 pub struct Taken {
     pub number: u8,
     pub receiver: Receiver,
@@ -29,7 +31,7 @@ pub struct Taken {
 }
 
 // What the end gives: the dump's number, the reader behind it, and the dump's channel, 0 where it is refused.
-#[derive(Drop)]
+#[derive(Clone, Copy)]
 pub struct Ended {
     pub number: u8,
     pub receiver: Receiver,

@@ -1,6 +1,8 @@
 // The work that bench/run times, in a form that a Rust program can link. Each function does one kind
 // of work many times over, so that the call itself costs next to nothing, and answers a sum of all
 // that was computed, so that nothing can be left out.
+#![tactic(auto)]
+
 ghost use Rattle.std.specs.Prelude.{◌≡◌, ◌≤◌, ◌<◌, min, length};
 
 use algorithms::Call;
@@ -337,7 +339,7 @@ pub extern "C" fn bench_validate(dump: &[u8]) -> u8 {
 }
 
 // A piece given to a reader until nothing of it is left; the mix has a byte of each reported patch.
-#[derive(Drop)]
+#[derive(Clone, Copy)]
 struct Given {
     receiver: Receiver,
     mix: u8,

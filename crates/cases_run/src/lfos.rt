@@ -6,7 +6,7 @@ use lfo_inner::Lfo;
 use patch::ModulationParameters;
 
 // An LFO and the generator's number.
-#[derive(Drop)]
+#[derive(Clone, Copy)]
 struct Playing {
     lfo: Lfo,
     state: u32,

@@ -1,6 +1,8 @@
 // Document 01's cases that are run and not proved, topic by topic, and the registry's old fault, shown gone. Each
 // topic has a heading and a line for each case: what was given, and what came back. Each function is told whether
 // every line before it was written, writes nothing where one was not, and says how it was with its own.
+#![tactic(auto)]
+
 mod lfos;
 mod patches;
 mod plans;

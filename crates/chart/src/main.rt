@@ -1,6 +1,8 @@
 // Prints the chart of levels as a page: ten rows of ten, from the very numbers that an operator's level is looked up
 // in. The page docs/LEVELS.md is this program's stored output, so page and code cannot come apart.
 
+#![tactic(auto)]
+
 ghost use Rattle.std.specs.Prelude.{◌<◌};
 
 // A line of text, if every line before it was written; the answer says whether this one was.

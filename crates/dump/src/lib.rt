@@ -1,12 +1,14 @@
 // Dumps: what every form of them has, a frame, a channel, data and a checksum. Added by us: no Rust file. Each function
 // is what specs/Dump says, for sound and damaged dumps alike. Numbers given back: 10 wrong length, 11 wrong frame byte,
 // 12 data byte above 127, 13 wrong checksum.
+#![tactic(auto)]
+
 ghost use Rattle.std.specs.Prelude.{◌≡◌, ◌+◌, ◌≤◌, ◌%◌, max, length};
 ghost use Rattle.dump.specs.Dump.{in_row, in_rows, fixed, yamaha_form, framed, total, largest_of, checksum_of};
 ghost use Rattle.dump.specs.Dump.{dump_number, opened_of};
 
 // A byte of a frame: the least and the largest number that may stand there.
-#[derive(Drop)]
+#[derive(Clone, Copy)]
 pub struct Row {
     pub from: u8,
     pub to: u8,
@@ -14,7 +16,7 @@ pub struct Row {
 
 // A form of dump: the rows of the six bytes before the data, how many data bytes there are, and the row of the last
 // byte, behind the checksum.
-#[derive(Drop)]
+#[derive(Clone, Copy)]
 pub struct Form {
     pub header: [Row; 6],
     pub count: usize,
@@ -22,7 +24,7 @@ pub struct Form {
 }
 
 // What opening a dump gives: its number, and its channel, 0 where it is refused.
-#[derive(Drop)]
+#[derive(Clone, Copy)]
 pub struct Opened {
     pub number: u8,
     pub channel: u8,
@@ -60,7 +62,7 @@ pub fn yamaha_form(format: u8, count: usize) -> Form
 }
 
 // The sum of some bytes, modulo 128, and the largest of them.
-#[derive(Drop)]
+#[derive(Clone, Copy)]
 pub struct Tallied {
     pub sum: u8,
     pub largest: u8,

@@ -1,5 +1,7 @@
 // The writer of dumps, of every form: the frame and the checksum around some data. Added by us: no Rust file. Helpers: a
 // caller has data and a buffer of the form's lengths; what they answer is in specs/Written.
+#![tactic(auto)]
+
 ghost use Rattle.std.specs.Prelude.{◌≡◌, ◌+◌, length};
 ghost use Rattle.dump_writer.specs.Written.{header_of, written_of};
 

@@ -2,6 +2,8 @@
 // operator.rs. An entry refuses a field above its largest number (6) and a parameter that is a NaN or outside its range
 // (7), and its promise names the answer for every input. The conversions themselves, for callers that have checked
 // their fields, and what each is about, are in `dx_units_inner`.
+#![tactic(auto)]
+
 ghost use Rattle.std.specs.Prelude.{◌≡◌};
 ghost use Rattle.dx_units.specs.Answers.{operator_level_answer, pitch_envelope_level_answer};
 ghost use Rattle.dx_units.specs.Answers.{operator_envelope_increment_answer, pitch_envelope_increment_answer};
@@ -16,28 +18,28 @@ pub use dx_units_step::{Mark, Stepped, frequency_step};
 use patch::{KeyboardScaling, largest};
 
 // A level, or the number of a refusal.
-#[derive(Drop)]
+#[derive(Clone, Copy)]
 pub enum Level {
     Value(u8),
     Refused(u8),
 }
 
 // What a conversion gives, or the number of a refusal.
-#[derive(Drop)]
+#[derive(Clone, Copy)]
 pub enum Converted {
     Value(f32),
     Refused(u8),
 }
 
 // Both increments, or the number of a refusal.
-#[derive(Drop)]
+#[derive(Clone, Copy)]
 pub enum Delay {
     Value(Increments),
     Refused(u8),
 }
 
 // A ratio, or the number of a refusal.
-#[derive(Drop)]
+#[derive(Clone, Copy)]
 pub enum Tuning {
     Value(Ratio),
     Refused(u8),

@@ -3,6 +3,8 @@
 // the step for a frequency in `dx_units_step`; the entries, which refuse what is out of range, are in `dx_units`.
 // Levels count in steps of an eighth of an octave of amplitude, 0.75 dB. The constants are the Rust's, fitted to the
 // old instrument; where a curve has a jump or a corner, it stays.
+#![tactic(auto)]
+
 ghost use Rattle.std.specs.Prelude.{◌≡◌, ◌≤◌, max};
 ghost use Rattle.dx_units_inner.specs.Tables.{level_chart, lut_coarse, lut_cube_root};
 ghost use Rattle.dx_units_inner.specs.Units.{operator_level, pitch_envelope_level, operator_envelope_increment};
@@ -15,14 +17,14 @@ ghost use Rattle.dx_units_inner.specs.Units.{coarse_semitones, base_semitones, f
 mod tables;
 
 // The increments of an LFO's delay and of the fade that follows, in Hz: each has half a phase to go.
-#[derive(Drop)]
+#[derive(Clone, Copy)]
 pub struct Increments {
     pub first: f32,
     pub second: f32,
 }
 
 // A frequency as a ratio to the note's, or to 1 Hz.
-#[derive(Drop)]
+#[derive(Clone, Copy)]
 pub enum Ratio {
     Note(f32),
     Hertz(f32),

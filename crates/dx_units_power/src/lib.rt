@@ -1,4 +1,6 @@
 // `pow_2_fast` of dx_units.rs: 2^x by the polynomial of an order. Each function promises its definition.
+#![tactic(auto)]
+
 ghost use Rattle.std.specs.Prelude.{◌≡◌, true, false, pos};
 ghost use Rattle.std.specs.Float.Ieee.{lt, le};
 ghost use Rattle.numbers.specs.F32.{decimal, minus_decimal};

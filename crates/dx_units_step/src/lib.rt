@@ -1,10 +1,12 @@
 // The step for a frequency, after operator.rs: how far a phase of 32 bits goes in a sample. It answers for every f32,
 // and says beside the number whether the frequency was held.
+#![tactic(auto)]
+
 ghost use Rattle.std.specs.Prelude.{◌≡◌};
 ghost use Rattle.dx_units_step.specs.Step.{mark_for, stepped_for};
 
 // What became of a frequency on the way to its step.
-#[derive(Drop)]
+#[derive(Clone, Copy)]
 pub enum Mark {
     AsAsked,
     HeldAtTop,
@@ -12,13 +14,13 @@ pub enum Mark {
 }
 
 // A mark, as an element of an array.
-#[derive(Drop)]
+#[derive(Clone, Copy)]
 pub struct Marked {
     pub mark: Mark,
 }
 
 // A step and its mark.
-#[derive(Drop)]
+#[derive(Clone, Copy)]
 pub struct Stepped {
     pub step: u32,
     pub mark: Mark,

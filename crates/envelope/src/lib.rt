@@ -2,6 +2,8 @@
 // largest (6); every float is taken, NaN included. Its promise names the answer for every input: a refusal hands the
 // state back as it came, and 0.0 for a value. The functions themselves, for callers that have checked their state, are
 // in `envelope_inner`.
+#![tactic(auto)]
+
 ghost use Rattle.std.specs.Prelude.{◌≡◌};
 ghost use Rattle.envelope.specs.Answers.{operator_fits, pitch_fits, set_answer, operator_set_answer, pitch_set_answer};
 ghost use Rattle.envelope.specs.Answers.{render_answer, scrub_answer, current_value_answer, value_answer};
@@ -9,14 +11,14 @@ ghost use Rattle.envelope.specs.Answers.{render_answer, scrub_answer, current_va
 pub use envelope_inner::{Envelope, init};
 
 // What setting gives: the number, and the envelope.
-#[derive(Drop)]
+#[derive(Clone, Copy)]
 pub struct Prepared {
     pub number: u8,
     pub envelope: Envelope,
 }
 
 // What a step gives: the number, the envelope, and its value there.
-#[derive(Drop)]
+#[derive(Clone, Copy)]
 pub struct Rendered {
     pub number: u8,
     pub envelope: Envelope,
@@ -24,7 +26,7 @@ pub struct Rendered {
 }
 
 // What a reader gives: the number, and the value.
-#[derive(Drop)]
+#[derive(Clone, Copy)]
 pub struct Read {
     pub number: u8,
     pub value: f32,

@@ -2,6 +2,8 @@
 // their state. One state serves operators and pitch, and `reshape`, true for an operator's, stands where the Rust has a
 // parameter of the type. Each function promises its definition; where a stage picks a level or an increment, it is
 // asked to be at most 3. One that is given no more than a position promises it for every envelope that stands there.
+#![tactic(auto)]
+
 ghost use Rattle.std.specs.Prelude.{◌≡◌, cond, ◌≤◌, get_or};
 ghost use Rattle.std.specs.Float.{nan};
 ghost use Rattle.dx_units_inner.specs.Tables.{level_chart};
@@ -17,7 +19,7 @@ ghost use Rattle.envelope_inner.specs.Set.{set_to, operator_set, pitch_set};
 // has a start of its own, the value at which the gate broke in. The mark is compared as a float.
 const PREVIOUS_LEVEL: f32 = -100.0;
 
-#[derive(Drop)]
+#[derive(Clone, Copy)]
 pub struct Envelope {
     pub stage: usize,
     pub phase: f32,
@@ -58,7 +60,7 @@ pub fn set(envelope: Envelope, increment: [f32; 4], level: [f32; 4]) -> Envelope
 }
 
 // Where a scrub's time ends: a stage, and the time left in it.
-#[derive(Drop)]
+#[derive(Clone, Copy)]
 pub struct Reached {
     pub stage: usize,
     pub t: f32,
@@ -141,7 +143,7 @@ fn past_stages(envelope: Envelope, reshape: bool, t: f32) -> f32
 }
 
 // Where an envelope stands.
-#[derive(Drop)]
+#[derive(Clone, Copy)]
 pub struct Position {
     pub stage: usize,
     pub phase: f32,

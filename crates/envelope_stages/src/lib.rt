@@ -1,5 +1,7 @@
 // The levels and increments of an envelope's four stages from a patch's rates and levels, after envelope.rs: what
 // setting an envelope computes. Each function promises its definition.
+#![tactic(auto)]
+
 ghost use Rattle.std.specs.Prelude.{◌≡◌, ◌≤◌};
 ghost use Rattle.dx_units_inner.specs.Tables.{level_chart};
 ghost use Rattle.envelope_stages.specs.Stages.{operator_stage_level, rising_increment, operator_stage_increment};

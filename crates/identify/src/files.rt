@@ -63,7 +63,7 @@ pub fn drain(fd: i32) {
 // A walk through a file: the window, the place in the file of the first byte that waits, whether that byte goes on
 // with a message that is no dump, how many bytes before it begin no message, whether the walk is over, and whether
 // every line was written.
-#[derive(Drop)]
+#[derive(Clone, Copy)]
 struct Walk {
     window: Window,
     place: u64,

@@ -2,6 +2,8 @@
 // one packed patch of 128 bytes, one single-voice dump of 163 or one dump of 32; a file may also hold several dumps. A
 // line for each patch goes to standard output: its slot, its name and its identifier. What is refused or cannot be
 // read has a line on standard error. docs/PROGRAMS.md has both.
+#![tactic(auto)]
+
 use libc::STDIN_FILENO;
 
 mod files;

@@ -6,7 +6,7 @@ const BEGIN: u8 = 0xF0;
 const END: u8 = 0xF7;
 
 // What begins at a byte: a dump of 32 patches, one of a single voice, a message that is neither, or no message.
-#[derive(Drop)]
+#[derive(Clone, Copy)]
 pub enum Found {
     Bank,
     Single,
@@ -72,7 +72,7 @@ fn place_of(bytes: &[u8], at: usize, one: u8, other: u8) -> usize
 }
 
 // Where a part of a file ends within some bytes, and whether it is over there.
-#[derive(Drop)]
+#[derive(Clone, Copy)]
 pub struct Cut {
     pub end: usize,
     pub over: bool,

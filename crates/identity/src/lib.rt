@@ -2,6 +2,8 @@
 // Rust file. Two patches that sound alike in these notes have one identifier, and a patch has the same one wherever and
 // whenever it is asked for: the generator's number is set at each note. A patch that a voice or an LFO refuses gets the
 // number of that refusal.
+#![tactic(auto)]
+
 ghost use Rattle.std.specs.Prelude.{◌≡◌, ◌*◌, ◌%◌, ◌^◌, if◌then◌else◌, nat_eq};
 ghost use Rattle.identity.specs.Hash.{hashed_byte, hashed_word, hashed_samples};
 ghost use Rattle.identity.specs.Identity.{readied, parameters_of, set_up_for, block_played, blocks_played, note_played};
@@ -15,7 +17,7 @@ use voice_render::VoiceParameters;
 const HASH_BASIS: u64 = 0xcbf2_9ce4_8422_2325;
 
 // What each note starts from, and the number of what was refused on the way.
-#[derive(Drop)]
+#[derive(Clone, Copy)]
 pub struct Ready {
     pub number: u8,
     pub voice: Voice,
@@ -23,7 +25,7 @@ pub struct Ready {
 }
 
 // What is carried from block to block.
-#[derive(Drop)]
+#[derive(Clone, Copy)]
 pub struct Playing {
     pub voice: Voice,
     pub lfo: Lfo,
@@ -32,7 +34,7 @@ pub struct Playing {
 }
 
 // A patch's identifier, or the number of its refusal and 0.
-#[derive(Drop)]
+#[derive(Clone, Copy)]
 pub struct Identified {
     pub number: u8,
     pub identifier: u64,

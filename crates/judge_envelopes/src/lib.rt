@@ -1,5 +1,7 @@
 // The judge's entries 58 to 5f and 74 to 77 (hex, docs/ORACLE.md): the crate `envelope`. An answer stands from place 5
 // on. An envelope is its stage in four bytes and eleven floats.
+#![tactic(auto)]
+
 use envelope::{Prepared, Read, Rendered};
 use envelope_inner::Envelope;
 

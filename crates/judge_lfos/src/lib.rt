@@ -1,5 +1,7 @@
 // The judge's entries 60 to 6f (hex, docs/ORACLE.md): the crate `lfo`. An answer stands from place 5 on. An LFO is ten
 // floats, its waveform, a bool and a signed number; the generator's number follows where it may have changed.
+#![tactic(auto)]
+
 use lfo::{Moved, Prepared, Read};
 use lfo_inner::{Lfo, Waveform};
 

@@ -1,5 +1,7 @@
 // The judge's entries 20 to 23 and 29 (hex, docs/ORACLE.md): the crates `patch`, `patch_limits` and `patch_packer`. An
 // answer stands from place 5 on. A patch is its 156 fields in the struct's order.
+#![tactic(auto)]
+
 ghost use Rattle.std.specs.Prelude.{◌≤◌};
 
 use patch::{Envelope, KeyboardScaling, ModulationParameters, Operator, Patch};

@@ -1,5 +1,7 @@
 // The judge's entries 98 to 9a (hex, docs/ORACLE.md): the crate `bank_pieces`. An answer stands from place 5 on. The
 // reader and the buffer that is lent to it are the register's.
+#![tactic(auto)]
+
 use bank_pieces::Receiver;
 
 // The length of the call at the script's start; 0 for no entry of this crate.

@@ -1,5 +1,7 @@
 // The judge's entries 50 to 57 and 70 to 72 (hex, docs/ORACLE.md): the crates `algorithms`, `plan_text` and
 // `algorithms_opcodes`. An answer stands from place 5 on. A plan is its count and six calls of five bytes each.
+#![tactic(auto)]
+
 use algorithms::{Call, Plan};
 
 // The length of the call at the script's start; 0 for no entry of this group.

@@ -2,6 +2,8 @@
 // the register's.
 
 // The length of the call at the script's start; 0 for no entry of this crate.
+#![tactic(auto)]
+
 pub fn length(entry: u8, s: &[u8]) -> usize {
     match entry {
         0x90 | 0x93 => 3 + judge_wire::half(s, 1) as usize,

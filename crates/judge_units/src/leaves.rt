@@ -1,7 +1,7 @@
 // The entries 01 to 13 (hex): the crate `numbers`. Each takes one or two words and answers one.
 
 // What an entry answers: a number, and how many bytes it is written in.
-#[derive(Drop)]
+#[derive(Clone, Copy)]
 pub struct Word {
     pub value: u64,
     pub width: u32,

@@ -1,5 +1,7 @@
 // The judge's entries 01 to 1f and 30 to 4f (hex, docs/ORACLE.md): numbers, conversions, tables, sine, ratio and draws.
 // None has a state.
+#![tactic(auto)]
+
 mod converted;
 mod leaves;
 

@@ -1,6 +1,8 @@
 // The judge's entries 80 to 8f (hex, docs/ORACLE.md): the crates `voice` and `voice_render`. An answer stands from
 // place 5 on. A voice is its fields in the struct's order, 667 bytes: a ratio is its kind (0 to the note, 1 to 1 Hz)
 // and a float.
+#![tactic(auto)]
+
 ghost use Rattle.std.specs.Prelude.{◌≤◌};
 
 use algorithms::Plan;
@@ -245,7 +247,7 @@ fn render_block(
 }
 
 // What a block says besides its samples and the voice.
-#[derive(Drop)]
+#[derive(Clone, Copy)]
 struct Told {
     number: u8,
     marks: [Marked; 6],
@@ -365,7 +367,7 @@ fn mixed(sum: u64, bits: u32) -> u64 {
 }
 
 // What a voice has of its patch.
-#[derive(Drop)]
+#[derive(Clone, Copy)]
 struct Setting {
     patch: Patch,
     row: [u8; 6],

@@ -1,5 +1,7 @@
 // The bytes of a script, of its answers and of the registers (docs/ORACLE.md): numbers of one to eight bytes, least
 // first. Past the end of what is read stand zeros, and past the end of what is written nothing is written.
+#![tactic(auto)]
+
 ghost use Rattle.std.specs.Prelude.{◌≤◌};
 
 // The registers are the states that live between calls, each as an answer writes it: where each begins, and how many

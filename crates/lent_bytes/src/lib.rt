@@ -1,5 +1,7 @@
 // Bytes in a lent slice: a run of them put at a place, and a number in two of them, least first. Added by us: no Rust
 // file. Helpers: each asks that the place lies within the slice, and answers what specs/TwoBytes says.
+#![tactic(auto)]
+
 ghost use Rattle.std.specs.Prelude.{◌≡◌, ◌+◌, ◌≤◌, length};
 ghost use Rattle.std.proofs.Math.Seq.{paste};
 ghost use Rattle.lent_bytes.specs.TwoBytes.{number_at, with_number};

@@ -2,6 +2,8 @@
 // promise names the answer for every input: a refusal hands back the state and the generator's number as they came, and
 // 0.0 for a value. An entry with `_with` takes the sine table lent, the same entry without makes it where the wave is a
 // sine. The functions themselves, for callers that have checked their state and arguments, are in `lfo_inner`.
+#![tactic(auto)]
+
 ghost use Rattle.std.specs.Prelude.{◌≡◌};
 ghost use Rattle.sine.specs.Table.{lut_sine};
 ghost use Rattle.lfo.specs.Answers.{from_zero, state_fits, step_fits, scrub_fits, move_answer, read_answer};
@@ -12,14 +14,14 @@ use lfo_inner::Motion;
 pub use lfo_inner::{Lfo, Waveform};
 
 // What making, setting and resetting give: the number, and the LFO.
-#[derive(Drop)]
+#[derive(Clone, Copy)]
 pub struct Prepared {
     pub number: u8,
     pub lfo: Lfo,
 }
 
 // What a step or a scrub gives: the number, the LFO, and the generator's number.
-#[derive(Drop)]
+#[derive(Clone, Copy)]
 pub struct Moved {
     pub number: u8,
     pub lfo: Lfo,
@@ -27,7 +29,7 @@ pub struct Moved {
 }
 
 // What a reader gives: the number, and the value or, refused, 0.
-#[derive(Drop)]
+#[derive(Clone, Copy)]
 pub struct Read {
     pub number: u8,
     pub value: f32,

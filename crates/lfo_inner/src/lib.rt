@@ -1,6 +1,8 @@
 // The LFO, after lfo.rs and in its order, without the refusals of `lfo`: for callers that have checked their state and
 // arguments. The generator's number goes in and comes back with the LFO, and the sine table is lent: a function with
 // `_with` takes it, the same function without makes it where the wave is a sine. Each promises its definition.
+#![tactic(auto)]
+
 ghost use Rattle.std.specs.Prelude.{◌≡◌, false, List, ◌≤◌, Float};
 ghost use Rattle.sine.specs.Table.{lut_sine};
 ghost use Rattle.lfo_inner.specs.Lfo.{waveform_of, fresh_lfo, adjusted, moved_to, valued, restarted, is_sine};
@@ -8,7 +10,7 @@ ghost use Rattle.lfo_inner.specs.Lfo.{triangle_wave, square_wave, sine_wave, wav
 ghost use Rattle.lfo_inner.specs.Lfo.{delay_stepped, delay_scrubbed, wrapped, stepped, whole_changed, scrubbed};
 ghost use Rattle.lfo_inner.specs.Lfo.{storing, settled, ramp_of, pitch_mod_of, amp_mod_of};
 
-#[derive(Drop)]
+#[derive(Clone, Copy)]
 pub enum Waveform {
     Triangle,
     RampDown,
@@ -32,7 +34,7 @@ pub fn waveform_from(n: u8) -> Waveform
     }
 }
 
-#[derive(Drop)]
+#[derive(Clone, Copy)]
 pub struct Lfo {
     pub phase: f32,
     pub frequency: f32,
@@ -49,7 +51,7 @@ pub struct Lfo {
 }
 
 // Where a step or a scrub ends: the LFO, and the generator's number.
-#[derive(Drop)]
+#[derive(Clone, Copy)]
 pub struct Motion {
     pub lfo: Lfo,
     pub state: u32,

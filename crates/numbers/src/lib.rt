@@ -2,6 +2,8 @@
 // wrap, extremes of floats, and a float's bits. It follows no file of the Rust. Each function has an
 // answer for every input, and its promise names it in the words of the logic's account of IEEE 754
 // (`lib.Ieee`) and of whole numbers.
+#![tactic(auto)]
+
 ghost use Rattle.std.specs.Prelude.{◌≡◌, pos, from_bits, to_bits};
 ghost use Rattle.std.specs.Float.{binary32};
 ghost use Rattle.std.specs.Float.Ieee.{to_unsigned, to_signed, of_int};

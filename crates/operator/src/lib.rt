@@ -1,6 +1,8 @@
 // One block of a chain of operators, after operator.rs: phases that wrap, amplitudes that ramp to their targets, and
 // the renderers that a plan can name. Each promises one thing, `Rendered`, for every input: the samples and the chain
 // after them. `pairs` are the sine's values and differences, lent; `s` is the chain as it comes.
+#![tactic(auto)]
+
 ghost use Rattle.std.specs.Prelude.{◌≡◌, true, ◌+◌, ◌≤◌, length};
 ghost use Rattle.operator.specs.Sample.{still, lane_of, operator_of, moved, sampled, fed, pushed, mixed};
 ghost use Rattle.operator.specs.Sample.{feedback_scale_of, ramp_scale};
@@ -8,7 +10,7 @@ ghost use Rattle.operator.specs.Chain.{Source, one, two, three, Rendered};
 ghost use Rattle.operator.specs.Parts.{all_near, Placed, Going};
 
 // What a block leaves behind of an operator.
-#[derive(Drop)]
+#[derive(Clone, Copy)]
 pub struct Operator {
     pub phase: u32,
     pub amplitude: f32,
@@ -34,14 +36,14 @@ impl Operator {
 }
 
 // The last two samples of the feedback's origin, the later one first.
-#[derive(Drop)]
+#[derive(Clone, Copy)]
 pub struct Feedback {
     pub previous_0: f32,
     pub previous_1: f32,
 }
 
 // An operator as it runs through a block.
-#[derive(Drop)]
+#[derive(Clone, Copy)]
 pub struct Lane {
     pub phase: u32,
     pub amplitude: f32,
@@ -50,20 +52,20 @@ pub struct Lane {
 }
 
 // Chains of one, two and three operators with the feedback.
-#[derive(Drop)]
+#[derive(Clone, Copy)]
 pub struct Single {
     pub first: Lane,
     pub feedback: Feedback,
 }
 
-#[derive(Drop)]
+#[derive(Clone, Copy)]
 pub struct Pair {
     pub first: Lane,
     pub second: Lane,
     pub feedback: Feedback,
 }
 
-#[derive(Drop)]
+#[derive(Clone, Copy)]
 pub struct Triple {
     pub first: Lane,
     pub second: Lane,

@@ -1,5 +1,7 @@
 // A DX7 patch from its 128 packed bytes, after patch.rs. Each entry is what specs/Packed derives from the one table of
 // specs/Layout, for accepted and refused input alike. Number given back: 1 fewer than 128 bytes.
+#![tactic(auto)]
+
 ghost use Rattle.std.specs.Prelude.{◌≡◌, ◌+◌, ◌≤◌, ◌<◌, ◌/◌, ◌%◌, min, length, get_or};
 ghost use Rattle.patch.specs.Layout.{later, envelope_field, scaling_field, operator_field, lfo_field, field_of};
 ghost use Rattle.patch.specs.Layout.{patch_sensitivity};
@@ -10,7 +12,7 @@ pub mod largest;
 
 pub const SYX_SIZE: usize = 128;
 
-#[derive(Drop)]
+#[derive(Clone, Copy)]
 pub struct Patch {
     pub op: [Operator; 6],
     pub pitch_envelope: Envelope,
@@ -23,13 +25,13 @@ pub struct Patch {
     pub active_operators: u8,
 }
 
-#[derive(Drop)]
+#[derive(Clone, Copy)]
 pub struct Envelope {
     pub rate: [u8; 4],
     pub level: [u8; 4],
 }
 
-#[derive(Drop)]
+#[derive(Clone, Copy)]
 pub struct KeyboardScaling {
     pub left_depth: u8,
     pub right_depth: u8,
@@ -38,7 +40,7 @@ pub struct KeyboardScaling {
     pub break_point: u8,
 }
 
-#[derive(Drop)]
+#[derive(Clone, Copy)]
 pub struct Operator {
     pub envelope: Envelope,
     pub keyboard_scaling: KeyboardScaling,
@@ -52,7 +54,7 @@ pub struct Operator {
     pub detune: u8,
 }
 
-#[derive(Drop)]
+#[derive(Clone, Copy)]
 pub struct ModulationParameters {
     pub delay: u8,
     pub rate: u8,
@@ -64,7 +66,7 @@ pub struct ModulationParameters {
 }
 
 // What unpacking gives: the number, and the patch or, refused, the one handed in.
-#[derive(Drop)]
+#[derive(Clone, Copy)]
 pub struct Unpacked {
     pub number: u8,
     pub patch: Patch,

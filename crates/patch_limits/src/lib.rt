@@ -1,6 +1,8 @@
 // What is in reach. The limits of a patch's fields, which a patch that was not unpacked may break: each of these
 // functions is what `patch`'s specs/Packed derives from the one table of its specs/Layout. Number given back: 6 a field
 // above its largest number. And the ranges of floats.
+#![tactic(auto)]
+
 ghost use Rattle.std.specs.Prelude.{◌≡◌};
 ghost use Rattle.patch_limits.specs.Ranges.{between, sample_rate_fits, note_fits, unit_fits};
 ghost use Rattle.patch.specs.Packed.{stages_fit, scaling_fits, operator_fits, operators_fit, modulations_fit};

@@ -1,5 +1,7 @@
 // A patch as its 155 numbers in layout order, and back, for other forms of a patch and for differences. Added by us: no
 // Rust file. Each entry is what specs/Numbers says, over the order of `patch`'s specs/Layout. Nothing is refused.
+#![tactic(auto)]
+
 ghost use Rattle.std.specs.Prelude.{◌≡◌, ◌+◌, ◌≤◌, length, get_or};
 ghost use Rattle.patch.specs.Form.{envelope_with, scaling_with, operator_with, modulations_with, name_with};
 ghost use Rattle.patch.specs.Positions.{envelope_position, scaling_position, operator_position, lfo_position, position};

@@ -1,6 +1,8 @@
 // The packer: a patch to its 128 packed bytes. Added to what patch.rs has. What packing means is derived in
 // specs/Packing from the one table of `patch`'s specs/Layout. Number given back: 6 for a patch that
 // `patch_limits::check` refuses.
+#![tactic(auto)]
+
 ghost use Rattle.std.specs.Prelude.{◌≡◌, true, ◌≤◌};
 ghost use Rattle.std.proofs.Math.Seq.{paste};
 ghost use Rattle.patch.specs.Packed.{operator_fits, patch_fits};
@@ -9,7 +11,7 @@ ghost use Rattle.patch_packer.specs.Packing.{operator_bytes, shared_bytes, packe
 use patch::{Operator, Patch};
 
 // What packing gives: the number, and the bytes or, refused, zeros.
-#[derive(Drop)]
+#[derive(Clone, Copy)]
 pub struct Packed {
     pub number: u8,
     pub bytes: [u8; 128],

@@ -1,6 +1,8 @@
 // The plan printer: reads one raw row of 4 or 6 bytes from standard input and prints its plan, or the line of its
 // refusal, which standard error gets in words. Two bytes more than a row are read at most: more input than a row is a
 // wrong length.
+#![tactic(auto)]
+
 use libc::STDIN_FILENO;
 
 // The refusal in words. 3 and 4 name their operator, 2 names none.

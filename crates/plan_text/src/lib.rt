@@ -1,5 +1,7 @@
 // The plan printer (added to what the Rust has): the text for one raw row, as bytes at the start of a lent buffer. It
 // promises the definition's text, and that what stood behind it stays.
+#![tactic(auto)]
+
 ghost use Rattle.std.specs.Prelude.{◌≡◌, [], ◌∷◌, ◌+◌, ◌*◌, ◌≤◌, ◌<◌, length, take};
 ghost use Rattle.plan_text.specs.Text.{Written, digit, hex_digit, bytes_text, row_text, count_text, source_text};
 ghost use Rattle.plan_text.specs.Text.{way_text, call_text, calls_text, at_text, refusal_text, plan_text};

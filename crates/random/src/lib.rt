@@ -1,10 +1,12 @@
 // The pseudo random number generator. It follows utils/random.rs, whose hidden number is passed in
 // here and handed back. Each function has an answer for every number, and its promise names it.
+#![tactic(auto)]
+
 ghost use Rattle.std.specs.Prelude.{◌≡◌};
 ghost use Rattle.random.specs.Random.{next_number, draw};
 
 // A draw, and the generator's number after it.
-#[derive(Drop)]
+#[derive(Clone, Copy)]
 pub struct Drawn {
     pub state: u32,
     pub value: f32,

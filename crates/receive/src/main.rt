@@ -2,12 +2,14 @@
 // as soon as its bytes are there: its slot, its name, and that it is provisional. The end of the input is the end of
 // the dump: a last line says that it was sound and on which channel, or standard error that it is refused.
 // docs/PROGRAMS.md has the lines.
+#![tactic(auto)]
+
 use bank_pieces::{Receiver, Taken};
 use libc::STDIN_FILENO;
 use streams::Window;
 
 // How far a run has come: the window over standard input, the reader of the dump, and whether it goes on.
-#[derive(Drop)]
+#[derive(Clone, Copy)]
 struct Run {
     window: Window,
     receiver: Receiver,

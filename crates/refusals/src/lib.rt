@@ -1,5 +1,7 @@
 // The text of a refusal, by its number, as bytes at the start of a lent buffer: `refused 13: wrong checksum`. Added
 // by us: no Rust file. It promises the definition's text for every number, and that what stood behind it stays.
+#![tactic(auto)]
+
 ghost use Rattle.std.specs.Prelude.{◌≡◌, ◌+◌, ◌≤◌, length};
 ghost use Rattle.refusals.specs.Refusals.{Begins, decimal, refusal};
 ghost use Rattle.refusals.specs.Refusals.{digit as Refusals·digit};

@@ -2,7 +2,7 @@
 
 // What became of the call at the start of the script: the bytes it took and those of its answer.
 // It took none where the script ends inside it or names no entry.
-#[derive(Drop)]
+#[derive(Clone, Copy)]
 pub struct Answered {
     pub read: usize,
     pub wrote: usize,

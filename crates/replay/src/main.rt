@@ -1,6 +1,8 @@
 // Reads a script of calls from standard input and writes every answer to standard output, in the format of
 // docs/ORACLE.md. The last line says how the script ended, and standard error gets that line too where it did not end
 // behind a whole call. The script is streamed: what is held is one buffer of it and one of answers.
+#![tactic(auto)]
+
 ghost use Rattle.std.specs.Prelude.{◌≤◌, length};
 
 use libc::STDIN_FILENO;
@@ -12,7 +14,7 @@ mod calls;
 const ROOM: usize = 24576;
 
 // How far a run has come: the window over the script, the calls answered, and whether it goes on.
-#[derive(Drop)]
+#[derive(Clone, Copy)]
 struct Run {
     window: Window,
     calls: u64,
@@ -21,7 +23,7 @@ struct Run {
 
 // What was answered of a buffer: the bytes taken, the bytes of the answers, the calls answered up
 // to now, and whether the next call names no entry.
-#[derive(Drop)]
+#[derive(Clone, Copy)]
 struct Progress {
     at: usize,
     put: usize,

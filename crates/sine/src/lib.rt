@@ -2,6 +2,8 @@
 // table is lent, so that a caller makes it once for a whole block. Operators look the sine up in a table of
 // pairs, each entry beside the way to the next: the innermost loop reads two neighbours and subtracts
 // nothing. Each function has an answer for every input, and its promise names it.
+#![tactic(auto)]
+
 ghost use Rattle.std.specs.Prelude.{◌≡◌, ◌<◌, T, get_or, true, false};
 ghost use Rattle.std.specs.Float.{nan};
 ghost use Rattle.std.specs.Float.Ieee.{is_nan};

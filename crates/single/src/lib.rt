@@ -2,6 +2,8 @@
 // what specs/Single says, for accepted and refused input alike. Numbers given back: 1 fewer than 128 packed bytes, 6 a
 // field above its largest number, a pitch sensitivity above 7 or a channel above 15, 10 wrong length, 11 wrong frame
 // byte, 12 data byte above 127, 13 wrong checksum.
+#![tactic(auto)]
+
 ghost use Rattle.std.specs.Prelude.{◌≡◌, ◌<◌, length};
 ghost use Rattle.dump.specs.Dump.{data_of};
 ghost use Rattle.dump_writer.specs.Written.{written_of};
@@ -14,7 +16,7 @@ use patch::{Patch, largest};
 pub const DUMP_SIZE: usize = 163;
 
 // What reading gives: the number, the channel and the patch; refused, 0 and the patch handed in.
-#[derive(Drop)]
+#[derive(Clone, Copy)]
 pub struct Parsed {
     pub number: u8,
     pub channel: u8,
@@ -22,14 +24,14 @@ pub struct Parsed {
 }
 
 // What writing gives: the number, and the dump or, refused, zeros.
-#[derive(Drop)]
+#[derive(Clone, Copy)]
 pub struct Written {
     pub number: u8,
     pub bytes: [u8; 163],
 }
 
 // What a dump's packed form is: the number, the dump's channel and the packed bytes; refused, zeros.
-#[derive(Drop)]
+#[derive(Clone, Copy)]
 pub struct Repacked {
     pub number: u8,
     pub channel: u8,

@@ -2,6 +2,8 @@
 // the line of a patch, and a window over what is read. Results go to standard output and what is wrong to standard
 // error. No contract can say what is read or written: these functions are proved safe and ending, and need nothing of
 // their callers.
+#![tactic(auto)]
+
 ghost use Rattle.std.specs.Prelude.{◌≡◌, ◌≤◌, min, length};
 
 use libc::{STDERR_FILENO, STDOUT_FILENO};
@@ -156,7 +158,7 @@ pub fn patch_columns(slot: usize, name: [u8; 10]) -> [u8; 14] {
 
 // A window over what is read: the bytes from `at` up to `end` of its buffer wait. `ended` says that no more will
 // come, `failed` that a read failed.
-#[derive(Drop)]
+#[derive(Clone, Copy)]
 pub struct Window {
     pub at: usize,
     pub end: usize,

@@ -2,6 +2,8 @@
 // are lent, so that a caller of many makes them once. `semitones_to_ratio_safe` has an answer for every
 // f32, and its promise names it: 1 for a NaN and outside -240 to 240, where the Rust's loops take many
 // turns or never end.
+#![tactic(auto)]
+
 ghost use Rattle.std.specs.Prelude.{◌≡◌, T};
 ghost use Rattle.units.specs.Tables.{lut_pitch_ratio_high, lut_pitch_ratio_low};
 ghost use Rattle.units.specs.Ratio.{within, ratio_in, lowered, raised, ratio_of};
@@ -9,7 +11,7 @@ ghost use Rattle.units.specs.Ratio.{within, ratio_in, lowered, raised, ratio_of}
 mod tables;
 
 // Semitones, and what to multiply their ratio by.
-#[derive(Drop)]
+#[derive(Clone, Copy)]
 struct Shifted {
     semitones: f32,
     scale: f32,

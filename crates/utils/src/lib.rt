@@ -1,6 +1,8 @@
 // Lookups in a table, by the straight line between two entries. It follows utils/mod.rs. The table is
 // lent, so that nothing is copied. Each function has an answer for every input, and its promise names
 // it; where the Rust reads past a table's end and panics, the answer is the table's last entry.
+#![tactic(auto)]
+
 ghost use Rattle.std.specs.Prelude.{◌≡◌, ◌-◌, ◌^◌, ◌<◌, pos};
 ghost use Rattle.std.specs.Float.{binary32};
 ghost use Rattle.std.specs.Float.Ieee.{to_unsigned, of_int};

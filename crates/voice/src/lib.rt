@@ -2,6 +2,8 @@
 // 01's order (starting 2, 5; setting a patch 9, 6, 2, 3, 4; taking it out, asking for it or setting the switch 9), and
 // its promise names the answer for every input: a refusal hands back the voice as it came. `voice_render` has its setup
 // and its blocks.
+#![tactic(auto)]
+
 ghost use Rattle.std.specs.Prelude.{◌≡◌};
 ghost use Rattle.envelope_inner.specs.Envelope.{all_stages};
 ghost use Rattle.voice.specs.Voice.{voice_with, with_patch, with_switch};
@@ -15,7 +17,7 @@ use operator::{Feedback, Operator};
 use patch::Patch;
 use voice_setup::Tuned;
 
-#[derive(Drop)]
+#[derive(Clone, Copy)]
 pub struct Voice {
     pub operators: usize,
     pub sample_rate: f32,
@@ -40,14 +42,14 @@ pub struct Voice {
 }
 
 // What starting, taking a patch out and setting the switch give.
-#[derive(Drop)]
+#[derive(Clone, Copy)]
 pub struct Prepared {
     pub number: u8,
     pub voice: Voice,
 }
 
 // What setting a patch gives; 3 and 4 name their operator.
-#[derive(Drop)]
+#[derive(Clone, Copy)]
 pub struct Loaded {
     pub number: u8,
     pub at: u8,
@@ -55,7 +57,7 @@ pub struct Loaded {
 }
 
 // What asking for the patch gives: whether there is one, and it; the zero patch where there is none.
-#[derive(Drop)]
+#[derive(Clone, Copy)]
 pub struct Stored {
     pub number: u8,
     pub has: bool,

@@ -3,6 +3,8 @@
 // one slice, the output first and then scratch 1 to 3. `run_plan` promises all four quarters, the operators and the
 // feedback after the calls (`ran`). `pairs` are the sine's values and differences, lent.
 // For speed the operators go from call to call as lent arrays of numbers, phases beside amplitudes, and not as structs.
+#![tactic(auto)]
+
 ghost use Rattle.std.specs.Prelude.{◌≡◌, ◌+◌, ◌*◌, ◌/◌, ◌%◌, ◌≤◌, ◌<◌, length, take};
 ghost use Rattle.operator.specs.Chain.{one, two, three};
 ghost use Rattle.voice_block.specs.Quarters.{Quartered};
@@ -15,7 +17,7 @@ use algorithms::{Call, Plan};
 use operator::{Feedback, Lane, Operator, Pair, Single, Triple};
 
 // What a block leaves behind: the operators and the feedback.
-#[derive(Drop)]
+#[derive(Clone, Copy)]
 pub struct Operators {
     pub operator: [Operator; 6],
     pub feedback_state: Feedback,
@@ -23,7 +25,7 @@ pub struct Operators {
 
 // What is the same for every call of a block: its samples, and what an amplitude's way to its target and the feedback's
 // sum are multiplied by.
-#[derive(Drop)]
+#[derive(Clone, Copy)]
 pub struct Pace {
     pub samples: usize,
     pub ramp: f32,

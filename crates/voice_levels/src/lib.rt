@@ -1,5 +1,7 @@
 // The numbers of a sounding block, after voice.rs's render: how fast the envelopes run, and for each operator its
 // envelope, its step with its mark, and its amplitude. Helpers of the voice, which has checked its state and the patch.
+#![tactic(auto)]
+
 ghost use Rattle.std.specs.Prelude.{◌≡◌, ◌≤◌, T};
 ghost use Rattle.envelope_inner.specs.Envelope.{all_stages};
 ghost use Rattle.patch.specs.Packed.{operators_fit};
@@ -17,7 +19,7 @@ use voice_setup::Tuned;
 const LEVEL_MOD_AT_REST: f32 = 0.9881440401;
 
 // How the envelopes run in a block: scrubbed to a sample, or on by a rate.
-#[derive(Drop)]
+#[derive(Clone, Copy)]
 pub struct Timing {
     pub sustain: bool,
     pub gate: bool,
@@ -29,14 +31,14 @@ pub struct Timing {
 }
 
 // An envelope after a block, and its value there.
-#[derive(Drop)]
+#[derive(Clone, Copy)]
 pub struct Followed {
     pub envelope: Envelope,
     pub value: f32,
 }
 
 // Where an envelope stands after a block, and its value there.
-#[derive(Drop)]
+#[derive(Clone, Copy)]
 pub struct Placed {
     pub stage: usize,
     pub phase: f32,
@@ -45,7 +47,7 @@ pub struct Placed {
 }
 
 // What all operators of a block have in common.
-#[derive(Drop)]
+#[derive(Clone, Copy)]
 pub struct Scene {
     pub timing: Timing,
     pub f0: f32,
@@ -57,7 +59,7 @@ pub struct Scene {
 }
 
 // An operator's envelope after a block, no more of it than where it stands, and its level, not yet an amplitude.
-#[derive(Drop)]
+#[derive(Clone, Copy)]
 pub struct Raised {
     pub stage: usize,
     pub phase: f32,
@@ -66,7 +68,7 @@ pub struct Raised {
 }
 
 // All operators of a block: envelopes, steps with their marks, and amplitudes.
-#[derive(Drop)]
+#[derive(Clone, Copy)]
 pub struct Levels {
     pub operator_envelope: [Envelope; 6],
     pub steps: [u32; 6],

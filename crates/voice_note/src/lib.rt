@@ -1,5 +1,7 @@
 // The note that a block plays in the place of the one it is given (document 02, request f). It follows no file of the
 // Rust, which never looks at a patch's transpose: that is a voice that does not transpose.
+#![tactic(auto)]
+
 ghost use Rattle.std.specs.Prelude.{◌≡◌};
 ghost use Rattle.voice_note.specs.Note.{shift_of, played_note};
 

@@ -2,6 +2,8 @@
 // in document 01's order (9, 8, 7), a setup 9, and the promise names the answer and the whole block for every input: a
 // refusal hands back the voice as it came and touches no buffer. A sounding block marks each operator whose pitch was
 // cut off. A voice whose switch is on plays every note as far away as its patch's transpose says.
+#![tactic(auto)]
+
 ghost use Rattle.std.specs.Prelude.{◌≡◌, false, cond, ◌≤◌, T, eqb, length};
 ghost use Rattle.sine.specs.Pairs.{sine_pairs};
 ghost use Rattle.units.specs.Tables.{lut_pitch_ratio_high, lut_pitch_ratio_low};
@@ -20,7 +22,7 @@ use voice_block::Operators;
 use voice_levels::{Levels, Scene};
 use voice_setup::Setup;
 
-#[derive(Drop)]
+#[derive(Clone, Copy)]
 pub struct VoiceParameters {
     pub sustain: bool,
     pub gate: bool,
@@ -34,7 +36,7 @@ pub struct VoiceParameters {
 
 // What a block gives besides its samples. The marks tell of each operator whether its pitch was cut off: they are all
 // as asked where the block is refused, blank or empty.
-#[derive(Drop)]
+#[derive(Clone, Copy)]
 pub struct Rendered {
     pub number: u8,
     pub marks: [Marked; 6],
@@ -42,7 +44,7 @@ pub struct Rendered {
 }
 
 // What a setup gives: whether the voice was dirty, and the voice.
-#[derive(Drop)]
+#[derive(Clone, Copy)]
 pub struct Readied {
     pub number: u8,
     pub was_dirty: bool,
@@ -50,14 +52,14 @@ pub struct Readied {
 }
 
 // The note and the velocity that scalings go by.
-#[derive(Drop)]
+#[derive(Clone, Copy)]
 pub struct Struck {
     pub note: f32,
     pub normalized_velocity: f32,
 }
 
 // What a block starts with: all that its operators have in common, and the pitch envelope after it.
-#[derive(Drop)]
+#[derive(Clone, Copy)]
 pub struct Begun {
     pub scene: Scene,
     pub pitch_envelope: Envelope,

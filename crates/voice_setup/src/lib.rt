@@ -1,5 +1,7 @@
 // What can be computed once a patch is loaded, after voice.rs's setup: for each operator its envelope, its headroom and
 // its frequency ratio. Helpers of the voice, which has checked the patch.
+#![tactic(auto)]
+
 ghost use Rattle.std.specs.Prelude.{◌≡◌, ◌≤◌, T};
 ghost use Rattle.dx_units_inner.specs.Tables.{level_chart};
 ghost use Rattle.patch.specs.Packed.{operator_fits, operators_fit};
@@ -9,13 +11,13 @@ use dx_units_inner::Ratio;
 use envelope_inner::Envelope;
 
 // A frequency ratio, as an element of an array.
-#[derive(Drop)]
+#[derive(Clone, Copy)]
 pub struct Tuned {
     pub ratio: Ratio,
 }
 
 // What a patch makes of one operator.
-#[derive(Drop)]
+#[derive(Clone, Copy)]
 pub struct OperatorSetup {
     pub envelope: Envelope,
     pub level_headroom: f32,
@@ -23,7 +25,7 @@ pub struct OperatorSetup {
 }
 
 // And of all.
-#[derive(Drop)]
+#[derive(Clone, Copy)]
 pub struct Setup {
     pub operator_envelope: [Envelope; 6],
     pub ratios: [Tuned; 6],
