@@ -1,0 +1,8 @@
+-- `algorithms::byte_at` meets its contract. Assumes nothing.
+use mathlib.Core.Path.{sym}
+use lib.ListN.{get_or-eq_default}
+use borrow.Author.Rules.{rules}
+use Rattle.algorithms.proofs.byte_at.Goals as goal
+
+pub returns-then-k-part : goal.returns
+returns-then-k-part c = sym (get_or-eq_default c.args.part.now 0 c.if-k-part.false)

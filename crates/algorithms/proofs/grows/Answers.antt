@@ -1,0 +1,13 @@
+-- `algorithms::grows` meets its contract. Assumes nothing.
+use Rattle.algorithms.proofs.Lengths.{grows_unmet, grows_met}
+use borrow.Author.Rules.{rules}
+use Rattle.algorithms.proofs.grows.Goals as goal
+
+pub returns-then-destination_of-source_of : goal.returns-then-destination_of-source_of
+returns-then-destination_of-source_of c =
+    grows_unmet _ _ _ _ c.destination_of.ensures c.source_of.ensures c.if-destination_of-source_of.true
+
+pub returns-then-destination_of-source_of : goal.returns
+returns-then-destination_of-source_of c =
+    grows_met _ _ _ _ c.destination_of.ensures c.source_of.ensures
+    c.if-destination_of-source_of.false _ c.is_adding.ensures

@@ -1,0 +1,6 @@
+-- `algorithms::refused` meets its contract. Assumes nothing.
+use borrow.Author.Rules.{rules}
+use Rattle.algorithms.proofs.refused.Goals as goal
+
+pub returns : goal.returns
+returns c = simp c.no_plan.ensures

@@ -1,0 +1,10 @@
+-- `patch::unpack_name` meets its contract. Each letter is read by `letter`. Assumes nothing.
+use borrow.Author.Rules.{rules}
+use Rattle.patch.specs.Packed.{bits_in, read_in}
+use Rattle.patch.specs.Form.{name_with}
+use Rattle.patch.specs.Layout.{field_of}
+use Rattle.patch.proofs.unpack_name.Goals as goal
+
+pub returns : goal.returns
+unfolding name_with read_in bits_in field_of
+returns c = cc
