@@ -4,5 +4,5 @@ use lib.ListN.{get_or-eq_default}
 use borrow.Author.Rules.{rules}
 use Rattle.algorithms.proofs.byte_at.Goals as goal
 
-pub returns-then-k-part : goal.returns
-returns-then-k-part c = sym (get_or-eq_default c.args.part.now 0 c.if-k-part.false)
+pub returns : goal.returns
+returns c = sym (get_or-eq_default c.args.part.now 0 c.if-k-part.false)

@@ -9,6 +9,6 @@ is_reused-requires c = (c.requires, c.grow-n.ensures)
 pub returns-then-is_reused : goal.returns-then-is_reused
 returns-then-is_reused c = cut_chain _ _ c.is_reused.ensures c.if-is_reused.true
 
-pub returns-then-is_reused : goal.returns
-returns-then-is_reused c =
+pub returns : goal.returns
+returns c =
     kept_chain _ _ c.is_reused.ensures _ c.grow-n.ensures c.if-is_reused.false

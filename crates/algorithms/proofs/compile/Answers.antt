@@ -12,7 +12,7 @@ returns-then-is_tabled c =
     compiled_row _ _ _ _ c.is_tabled.ensures _ _ _ c.with_row.ensures c.if-is_tabled.true
     c.row_of-bytes.ensures c.compile_row-p.ensures
 
-pub returns-then-is_tabled : goal.returns
-returns-then-is_tabled c =
+pub returns : goal.returns
+returns c =
     compiled_refused _ _ _ _ c.is_tabled.ensures _ _ _ c.with_row-2.ensures
     c.if-is_tabled.false c.refused-p.ensures

@@ -102,7 +102,7 @@ loop-first-preserved c =
           c.if-is_unready.false ∙ c.loop-first.invariant.rest;
     }
 
-pub returns-then-n-eq0 : goal.returns
-returns-then-n-eq0 c =
+pub returns : goal.returns
+returns c =
     done_at _ _ _ (record { count = c.loop-first.count; calls = c.loop-first.calls }) c.requires.0
     c.requires.1 c.loop-first-test.false ∙ c.loop-first.invariant.rest

@@ -14,6 +14,6 @@ unfolding planned
 returns-then-is_counted c =
     rw (sym c.is_counted.ensures ∙ c.if-is_counted.true) c.compile_calls.ensures
 
-pub returns-then-is_counted : goal.returns
+pub returns : goal.returns
 unfolding planned
-returns-then-is_counted c = rw (sym c.is_counted.ensures ∙ c.if-is_counted.false) c.refused.ensures
+returns c = rw (sym c.is_counted.ensures ∙ c.if-is_counted.false) c.refused.ensures

@@ -12,7 +12,7 @@ use Rattle.algorithms.proofs.ends_at.Goals as goal
 
 -- a plan has room for six calls
 long : (c : goal.Start) → length c.args.t1.calls ≡ 6
-long c = simp length-map at c.well-formed.0.1.1.1.0.1.0.1
+long c = simp length-map at c.well_formed.0.1.1.1.0.1.0.1
 
 pub returns-then-plan-k : goal.returns-then-plan-k
 returns-then-plan-k c = other_count _ _ c.if-plan-k.true
@@ -28,6 +28,6 @@ pub loop-i-preserved : goal.loop-i-preserved
 loop-i-preserved c =
     (omega arith, omega arith, none_behind _ _ (long c.before.before.before.before.before.before.before) _ c.loop-i.invariant.0 (omega arith) _ c.no_call-none.ensures _ c.same_call.ensures (not-false _ c.if-not-same_call.false) ∙ c.loop-i.invariant.2)
 
-pub returns-then-plan-k : goal.returns
-returns-then-plan-k c =
+pub returns : goal.returns
+returns c =
     sym (same_done c.args.t1.calls _ c.loop-i.i (omega (arith, long c.before.before.before.before)) (omega (arith, first_slots c.args.t1 c.args.k))) ∙ c.loop-i.invariant.2

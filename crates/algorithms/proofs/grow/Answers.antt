@@ -23,7 +23,7 @@ loop-last-preserved c =
     let x = more_at _ _ _ w (omega arith) (sym c.grows.ensures ∙ not-false _ c.if-not-grows.false) in
     (omega arith, omega arith, omega (arith, x))
 
-pub returns-then-not-grows : goal.returns
-returns-then-not-grows c =
+pub returns : goal.returns
+returns c =
     let w : Within c.args.operators c.loop-last.last c.args.row.now = record { whole = c.requires.whole; most = c.requires.most; one = c.loop-last.invariant.1 } in
     omega (arith, last_at _ _ _ w (omega arith))

@@ -7,7 +7,7 @@ pub returns-then-destination_of-source_of : goal.returns-then-destination_of-sou
 returns-then-destination_of-source_of c =
     grows_unmet _ _ _ _ c.destination_of.ensures c.source_of.ensures c.if-destination_of-source_of.true
 
-pub returns-then-destination_of-source_of : goal.returns
-returns-then-destination_of-source_of c =
+pub returns : goal.returns
+returns c =
     grows_met _ _ _ _ c.destination_of.ensures c.source_of.ensures
     c.if-destination_of-source_of.false _ c.is_adding.ensures

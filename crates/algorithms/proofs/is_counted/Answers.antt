@@ -7,6 +7,6 @@ pub returns-then-operators-eq4 : goal.returns-then-operators-eq4
 unfolding counted
 returns-then-operators-eq4 c = rw c.if-operators-eq4.true
 
-pub returns-then-operators-eq4 : goal.returns
+pub returns : goal.returns
 unfolding counted
-returns-then-operators-eq4 c = rw (ne_eqb _ 4 c.if-operators-eq4.false)
+returns c = rw (ne_eqb _ 4 c.if-operators-eq4.false)

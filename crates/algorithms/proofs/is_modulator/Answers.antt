@@ -17,7 +17,7 @@ pub row_of-bytes-requires : goal.row_of-bytes-requires
 row_of-bytes-requires c =
     sym c.is_tabled.ensures ∙ not-false _ c.if-not-is_tabled.false
 
-pub returns-then-not-is_tabled : goal.returns
-returns-then-not-is_tabled c =
+pub returns : goal.returns
+returns c =
     row_operator _ _ _ _ (sym c.is_tabled.ensures ∙ not-false _ c.if-not-is_tabled.false)
     c.if-operators-operator.false c.row_of-bytes.ensures c.byte_at.ensures c.is_modulating.ensures

@@ -135,7 +135,7 @@ loop-first-preserved c =
       rest = rw (← next) (stepped (c.before.before.before.before));
     }
 
-pub returns-then-not-is_counted : goal.returns
-returns-then-not-is_counted c =
+pub returns : goal.returns
+returns c =
     c.ends_at.ensures ∙ whole_plan _ _ _ (first_calls c.loop-first.k c.args.t3)
     (done_at _ _ _ _ (long c.before.before.before.before.before) c.loop-first.invariant.most c.loop-first-test.false ∙ c.loop-first.invariant.rest)

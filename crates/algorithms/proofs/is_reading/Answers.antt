@@ -5,5 +5,5 @@ use Rattle.algorithms.proofs.is_reading.Goals as goal
 pub returns-then-c-eq1 : goal.returns-then-c-eq1
 returns-then-c-eq1 c = reading_one _ c.if-c-eq1.true
 
-pub returns-then-c-eq1 : goal.returns
-returns-then-c-eq1 c = reading_two _ c.if-c-eq1.false
+pub returns : goal.returns
+returns c = reading_two _ c.if-c-eq1.false

@@ -12,5 +12,5 @@ returns-then-next-operators c =
     reused_at _ _ _ c.requires.0 _ c.requires.1 c.if-next-operators.true _ _ c.source_of.ensures
     c.destination_of.ensures
 
-pub returns-then-next-operators : goal.returns
-returns-then-next-operators c = reused_never _ _ _ c.requires.0 _ c.requires.1 c.if-next-operators.false
+pub returns : goal.returns
+returns c = reused_never _ _ _ c.requires.0 _ c.requires.1 c.if-next-operators.false

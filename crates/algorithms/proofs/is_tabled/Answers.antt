@@ -33,6 +33,6 @@ pub returns-then-rows-gt32 : goal.returns-then-rows-gt32
 returns-then-rows-gt32 c =
     long_table _ _ _ (counts (c.before.before.before)) c.if-table-eq0.false c.if-table-operators-ne0.false c.if-rows-gt32.true
 
-pub returns-then-not-is_counted : goal.returns
-returns-then-not-is_counted c =
+pub returns : goal.returns
+returns c =
     row_test _ _ _ (counts (c.before.before.before)) c.if-table-eq0.false c.if-table-operators-ne0.false c.if-rows-gt32.false

@@ -10,7 +10,7 @@ returns-then-lacks c =
     unready_read (λ q. get_or c.args.flags.now q false) _ _ _ c.is_reading-asked.ensures
     c.lacks.ensures c.if-lacks.true
 
-pub returns-then-lacks : goal.returns
-returns-then-lacks c =
+pub returns : goal.returns
+returns c =
     unready_add (λ q. get_or c.args.flags.now q false) _ _ _ _ c.is_reading-asked.ensures
     c.lacks.ensures c.if-lacks.false c.lacks-2.ensures

@@ -17,7 +17,7 @@ returns-then-is_flagged c =
     own_rendered _ _ _ c.requires _ c.call_length-n.ensures c.if-n-ne1.false _
     c.source_of.ensures c.if-source_of-ne3.false _ c.is_flagged.ensures c.if-is_flagged.true
 
-pub returns-then-n-ne1 : goal.returns
-returns-then-n-ne1 c =
+pub returns : goal.returns
+returns c =
     none_rendered _ _ _ c.requires _ c.call_length-n.ensures c.if-n-ne1.false _
     c.source_of.ensures c.if-source_of-ne3.false _ c.is_flagged.ensures c.if-is_flagged.false

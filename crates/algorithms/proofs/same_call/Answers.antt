@@ -23,7 +23,7 @@ pub returns-then-c-d-4 : goal.returns-then-c-d-4
 returns-then-c-d-4 c =
     sym (same_from_output _ _ c.if-c-d.false c.if-c-d-2.false c.if-c-d-3.false ∙ simp (ne_eqb _ _ c.if-c-d-4.true))
 
-pub returns-then-c-d : goal.returns
-returns-then-c-d c =
+pub returns : goal.returns
+returns c =
     sym (same_from_output _ _ c.if-c-d.false c.if-c-d-2.false c.if-c-d-3.false
     ∙ simp (eq-eqb _ _ c.if-c-d-4.false))

@@ -11,10 +11,10 @@ use Rattle.algorithms.proofs.same_plan.Goals as goal
 
 -- a plan has room for six calls
 long_a : (c : goal.Start) → length c.args.t1.calls ≡ 6
-long_a c = simp length-map at c.well-formed.0.1.1.1.0.1.0.1
+long_a c = simp length-map at c.well_formed.0.1.1.1.0.1.0.1
 
 long_b : (c : goal.Start) → length c.args.t2.calls ≡ 6
-long_b c = simp length-map at c.well-formed.1.0.1.1.1.0.1.0.1
+long_b c = simp length-map at c.well_formed.1.0.1.1.1.0.1.0.1
 
 pub returns-then-a-b : goal.returns-then-a-b
 unfolding same_plan
@@ -32,7 +32,7 @@ pub loop-k-preserved : goal.loop-k-preserved
 loop-k-preserved c =
     (omega arith, sym (same_more c.args.t1.calls c.args.t2.calls c.loop-k.k (omega (arith, long_a c.before.before.before.before.before.before.before)) (omega (arith, long_b c.before.before.before.before.before.before.before)) (sym c.same_call.ensures ∙ not-false _ c.if-not-same_call.false)) ∙ c.loop-k.invariant.1)
 
-pub returns-then-a-b : goal.returns
+pub returns : goal.returns
 unfolding same_plan
-returns-then-a-b c =
+returns c =
     rw (eq-eqb _ _ c.if-a-b.false) (sym (same_done c.args.t1.calls c.args.t2.calls c.loop-k.k (omega (arith, long_a c.before.before.before)) (omega (arith, long_b c.before.before.before))) ∙ c.loop-k.invariant.1)

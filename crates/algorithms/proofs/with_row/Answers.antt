@@ -5,5 +5,5 @@ use Rattle.algorithms.proofs.with_row.Goals as goal
 pub returns-then-p-eq0 : goal.returns-then-p-eq0
 returns-then-p-eq0 c = kept_row _ _ c.if-p-eq0.true
 
-pub returns-then-p-eq0 : goal.returns
-returns-then-p-eq0 c = zero_row _ _ c.if-p-eq0.false
+pub returns : goal.returns
+returns c = zero_row _ _ c.if-p-eq0.false

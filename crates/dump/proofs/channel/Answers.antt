@@ -21,10 +21,10 @@ bounds-dump-2 c =
     let form = c.args.form in
     let dump = c.args.dump.now in
     let long = (sound form dump (sym c.number-number.ensures ∙ c.if-number-ne0.false)).long in
-    omega (arith, long, size_is form (simp length-map at c.well-formed.1.0.1.1.0.1.0.1))
+    omega (arith, long, size_is form (simp length-map at c.well_formed.1.0.1.1.0.1.0.1))
 
-pub returns-then-number-ne0 : goal.returns
+pub returns : goal.returns
 unfolding opened_of channel_byte
-returns-then-number-ne0 c =
+returns c =
     let accepted = sym c.number-number.ensures ∙ c.if-number-ne0.false in
     rw (c.number-number.ensures, accepted)

@@ -7,6 +7,6 @@ use Rattle.dump.proofs.framed_right.Goals as goal
 
 pub returns : goal.returns
 returns c =
-    framed_is c.args.form (simp length-map at c.well-formed.1.0.1.1.0.1.0.1)
+    framed_is c.args.form (simp length-map at c.well_formed.1.0.1.1.0.1.0.1)
     c.args.dump.now c.in_rows-begins.result c.in_row.result c.in_rows-begins.ensures
     c.in_row.ensures

@@ -16,7 +16,7 @@ use Rattle.dump.proofs.number.Goals as goal
 
 -- an array is as long as it is declared
 six : (c : goal.Start) → length c.args.form.header ≡ 6
-six c = simp length-map at c.well-formed.1.0.1.1.0.1.0.1
+six c = simp length-map at c.well_formed.1.0.1.1.0.1.0.1
 
 -- the dump and its form, and what the tests before the tally showed of them
 abbrev start : tie.After-struct-known3 → tie.Start
@@ -78,8 +78,8 @@ returns-then-t-c-ne0 c =
     (not_summed (data_of (form c.before.before.before.before) (dump c.before.before.before.before)) (sum_byte (form c.before.before.before.before) (dump c.before.before.before.before)) _ (sum_is c.before.before.before.before)
     (λ e. c.if-t-c-ne0.true (omega (arith, sum_byte_is (form c.before.before.before.before) (six (start c.before.before.before.before)) (dump c.before.before.before.before)))))
 
-pub returns-then-dump-lt8 : goal.returns
-returns-then-dump-lt8 c =
+pub returns : goal.returns
+returns c =
     is_0 (form c.before.before.before.before) (dump c.before.before.before.before) (long c.before.before.before.before) (right c.before.before.before.before) (omega (arith, largest_is c.before.before.before.before))
     (is_summed (data_of (form c.before.before.before.before) (dump c.before.before.before.before)) (sum_byte (form c.before.before.before.before) (dump c.before.before.before.before)) _ (sum_is c.before.before.before.before)
     (omega (arith, sum_byte_is (form c.before.before.before.before) (six (start c.before.before.before.before)) (dump c.before.before.before.before)))

@@ -10,8 +10,8 @@ returns-then-x c = abs_neg c.args.x c.if-x.true
 
 pub returns-then-x-2 : goal.returns-then-x-2
 unfolding of_bits
-returns-then-x-2 c = abs_zero c.args.x (subst T (sym c.well-formed.0.1) tt) c.if-x-2.true
+returns-then-x-2 c = abs_zero c.args.x (subst T (sym c.well_formed.0.1) tt) c.if-x-2.true
 
-pub returns-then-x : goal.returns
+pub returns : goal.returns
 unfolding of_bits
-returns-then-x c = abs_else c.args.x c.if-x.false c.if-x-2.false
+returns c = abs_else c.args.x c.if-x.false c.if-x-2.false

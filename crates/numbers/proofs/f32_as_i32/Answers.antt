@@ -20,7 +20,7 @@ unfolding of_bits neg
 same c =
     let x = c.args.x in
     to_z-of_z w64 c.truncating_f32_to_i64.result
-    (record { sfits = c.truncating_f32_to_i64.type-inv }) ∙ c.truncating_f32_to_i64.ensures
+    (record { sfits = c.truncating_f32_to_i64.type_inv }) ∙ c.truncating_f32_to_i64.ensures
     ∙ narrows_signed 31 63 x (omega arith) (under 31 x c.if-x.true)
     (at_least_neg 31 x c.if-x-2.true)
 
@@ -43,8 +43,8 @@ pub returns-then-x-3 : goal.returns-then-x-3
 unfolding of_bits
 returns-then-x-3 c = let x = c.args.x in sym (too_high 31 x (at_least 31 x c.if-x-3.true))
 
-pub returns-then-x-2 : goal.returns
+pub returns : goal.returns
 unfolding of_bits
-returns-then-x-2 c =
+returns c =
     let x = c.args.x in
     sym (neither 31 x (not_under 31 x c.if-x.false) (not_at_least 31 x c.if-x-3.false))

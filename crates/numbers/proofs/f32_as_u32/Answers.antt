@@ -46,8 +46,8 @@ overflow_cast-result c =
 pub returns-then-x-3 : goal.returns-then-x-3
 returns-then-x-3 c = same c
 
-pub returns-then-x-2 : goal.returns
+pub returns : goal.returns
 unfolding of_bits neg
-returns-then-x-2 c =
+returns c =
     let x = c.args.x in
     sym (negative 32 0 x (not_above_neg 0 x c.if-x-3.false))

@@ -21,8 +21,8 @@ returns-then-x-3 c =
     let x = c.args.x in
     sym (too_large 64 x (not_under 64 x c.if-x.false) (at_least_no_nan 64 x (at_least 64 x c.if-x-3.true)))
 
-pub returns-then-x-2 : goal.returns
+pub returns : goal.returns
 unfolding of_bits
-returns-then-x-2 c =
+returns c =
     let x = c.args.x in
     sym (neither_unsigned 64 64 x (not_under 64 x c.if-x.false) (not_at_least 64 x c.if-x-3.false))

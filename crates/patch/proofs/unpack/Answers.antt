@@ -8,6 +8,6 @@ pub returns-then-data-lt-SYX_SIZE : goal.returns-then-data-lt-SYX_SIZE
 unfolding unpack_of
 returns-then-data-lt-SYX_SIZE c = simp (lt-ltb _ _ c.if-data-lt-SYX_SIZE.true)
 
-pub returns-then-data-lt-SYX_SIZE : goal.returns
+pub returns : goal.returns
 unfolding unpack_of
-returns-then-data-lt-SYX_SIZE c = simp (le-ltb _ _ c.if-data-lt-SYX_SIZE.false, c.unpack_whole-read.ensures)
+returns c = simp (le-ltb _ _ c.if-data-lt-SYX_SIZE.false, c.unpack_whole-read.ensures)

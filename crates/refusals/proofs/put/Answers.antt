@@ -31,8 +31,8 @@ loop-k-preserved c =
       omega (arith, longer piece c.loop-k.k h e, c.loop-k.invariant.2),
     )
 
-pub returns-then-piece-k-eq46 : goal.returns
-returns-then-piece-k-eq46 c =
+pub returns : goal.returns
+returns c =
     let piece = c.args.piece.now in
     let e : c.loop-k.k ≡ length piece = omega arith in
     put_whole _ _ _ _ _ _ (ap (λ (k : ℕ). sentence (drop k piece)) e ∙ sentence_ends piece)

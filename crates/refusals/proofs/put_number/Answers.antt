@@ -13,8 +13,8 @@ returns-then-n-lt100 c =
     c.digit-ones.ensures
     c.put-then-n-lt100.ensures
 
-pub returns-then-n-lt10 : goal.returns
-returns-then-n-lt10 c =
+pub returns : goal.returns
+returns c =
     three_digits _ _ _ _ _ _ _ _ c.if-n-lt10.false c.if-n-lt100.false c.digit-hundreds.ensures
     c.digit-tens.ensures
     c.digit-ones.ensures

@@ -10,6 +10,6 @@ pub returns-then-end-table : goal.returns-then-end-table
 unfolding row
 returns-then-end-table c = rw (le-leb _ _ c.if-end-table.true) (rw width at c.put.ensures)
 
-pub returns-then-end-table : goal.returns
+pub returns : goal.returns
 unfolding row letters sentence
-returns-then-end-table c = rw (lt-leb _ _ c.if-end-table.false) c.put-2.ensures
+returns c = rw (lt-leb _ _ c.if-end-table.false) c.put-2.ensures
