@@ -31,6 +31,7 @@ digits_lt (suc m) e f =
 
 pub fast_in : (x : Float) → T (fits binary32 x) → AtLeast 23 x → Under 32 x → T (in_unsigned binary64 32 x)
 unfolding in_unsigned whole
+fast_in _ f ge_inf u = elim u [ ]
 fast_in _ f (ge_fin m (negsuc k) g) u = absurd (no_fraction m k (digits_lt m (negsuc k) f) g)
 fast_in _ f (ge_fin m (pos k) g) (lt_fin _ _ l) =
     let n : ℕ = m * 2 ^ k in
@@ -121,6 +122,7 @@ whole_le j m e h = div-le_of_le-mul (down e) (subst (λ (n : ℕ). m * up e ≤ 
 
 pub narrows_signed : (j v : ℕ) (x : Float) → j ≤ v → Under j x → AtLeastNeg j x → to_signed v x ≡ to_signed j x
 unfolding to_signed
+narrows_signed j v _ p lt_inf g = elim g [ ]
 narrows_signed j v _ p (lt_neg m e) (gen_neg _ _ g) =
     neg_min (m * up e / down e) (2 ^ v) (2 ^ j) (let h =
     whole_le j m e g in let q = pow_mono p in omega arith) (whole_le j m e g)
@@ -135,6 +137,7 @@ too_low j _ (lt_neg m e) (ngen_neg _ _ g) =
     let h = (le-div_iff_mul-le (down_pos e)).1 (le_of_lt g) in
     let z : min (m * up e / down e) (2 ^ j) ≡ 2 ^ j = omega arith in
     rw z
+too_low j _ (lt_fin m e _) n = elim n [ ]
 
 pub too_high : (j : ℕ) (x : Float) → AtLeast j x → to_signed j x ≡ pos (2 ^ j - 1)
 unfolding to_signed
@@ -148,11 +151,13 @@ too_high j _ (ge_fin m e g) =
 pub neither_unsigned : (w j : ℕ) (x : Float) → NotUnder j x → NotAtLeast j x → to_unsigned w x ≡ 0
 unfolding to_unsigned
 neither_unsigned w j _ nlt_nan n = refl
+neither_unsigned w j _ nlt_inf n = elim n [ ]
 neither_unsigned w j _ (nlt_fin m e g) (nge_fin _ _ h) = absurd (lt_irrefl _ (lt_of_lt_of_le h g))
 
 pub neither : (j : ℕ) (x : Float) → NotUnder j x → NotAtLeast j x → to_signed j x ≡ pos 0
 unfolding to_signed
 neither j _ nlt_nan n = refl
+neither j _ nlt_inf n = elim n [ ]
 neither j _ (nlt_fin m e g) (nge_fin _ _ h) = absurd (lt_irrefl _ (lt_of_lt_of_le h g))
 
 pub or_i : (a b : Bool) → T a → T (a || b)

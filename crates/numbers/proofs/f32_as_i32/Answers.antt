@@ -11,7 +11,10 @@ pub truncating_f32_to_i64-requires : goal.truncating_f32_to_i64-requires
 unfolding of_bits neg
 truncating_f32_to_i64-requires c =
     let x = c.args.x in
-    (low_wider 31 63 x (omega arith) (at_least_neg 31 x c.if-x-2.true), high_wider 31 63 x (omega arith) (under 31 x c.if-x.true))
+    record {
+      lower_bound = low_wider 31 63 x (omega arith) (at_least_neg 31 x c.if-x-2.true);
+      upper_bound = high_wider 31 63 x (omega arith) (under 31 x c.if-x.true);
+    }
 
 -- the call's result, read back from its 64 bits
 same : (c : goal.After-truncating_f32_to_i64)

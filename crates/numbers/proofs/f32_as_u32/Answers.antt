@@ -1,5 +1,5 @@
 -- `numbers::f32_as_u32` meets its contract. Assumes nothing.
-use Rattle.std.proofs.Common.{◌≡◌, T, sym, ◌∙◌, subst, arith, rules}
+use Rattle.std.proofs.Common.{◌≡◌, T, sym, ◌∙◌, subst, arith}
 use lib.Ieee.{of_bits, neg, to_unsigned}
 use lib.Ieee.Casts.{to_unsigned-lt}
 use Rattle.numbers.proofs.Views.{at_least, not_at_least, under, not_under, not_above_neg}
@@ -29,7 +29,10 @@ pub truncating_f32_to_u64-requires : goal.truncating_f32_to_u64-requires
 unfolding of_bits neg
 truncating_f32_to_u64-requires c =
     let x = c.args.x in
-    (subst T (sym c.if-x-3.true) tt, small_enough 23 64 x (omega arith) (not_at_least 23 x c.if-x.false) c.if-x-3.true)
+    record {
+      lower_bound = subst T (sym c.if-x-3.true) tt;
+      upper_bound = small_enough 23 64 x (omega arith) (not_at_least 23 x c.if-x.false) c.if-x-3.true;
+    }
 
 same : (c : goal.After-truncating_f32_to_u64)
     → c.truncating_f32_to_u64.result ≡ to_unsigned 32 c.args.x

@@ -1,5 +1,5 @@
 -- `numbers::f32_as_usize` meets its contract. Assumes nothing.
-use Rattle.std.proofs.Common.{T, sym, subst, rules}
+use Rattle.std.proofs.Common.{T, sym, subst}
 use lib.Ieee.{of_bits, neg}
 use Rattle.numbers.proofs.Views.{at_least, not_at_least, not_under, not_above_neg}
 use Rattle.numbers.proofs.Casts.{too_large, negative, at_least_no_nan, neither_unsigned}
@@ -7,7 +7,8 @@ use Rattle.numbers.proofs.f32_as_usize.Goals as goal
 
 pub truncating_f32_to_u64-requires : goal.truncating_f32_to_u64-requires
 unfolding of_bits neg
-truncating_f32_to_u64-requires c = (subst T (sym c.if-x-2.true) tt, subst T (sym c.if-x.true) tt)
+truncating_f32_to_u64-requires c =
+    record { lower_bound = subst T (sym c.if-x-2.true) tt; upper_bound = subst T (sym c.if-x.true) tt }
 
 pub returns-then-x : goal.returns-then-x
 unfolding of_bits neg

@@ -1,6 +1,6 @@
 -- `numbers::f32_from_bits` meets its contract: a pattern is a NaN's where its lower 31 bits are above an infinity's.
 -- Assumes nothing.
-use Rattle.std.proofs.Common.{◌≡◌, ℕ, ◌%◌, ◌<◌, ◌≤◌, Bool, false, not, T, sym, ◌∙◌, subst, rules, le-ltb, lt-ltb}
+use Rattle.std.proofs.Common.{◌≡◌, ℕ, ◌%◌, ◌<◌, ◌≤◌, Bool, false, not, T, sym, ◌∙◌, subst, le-ltb, lt-ltb}
 use lib.Ieee.{nan, binary32, of_bits, nan_bits, div}
 use lib.Ieee.Bits.{nan_bits_is, nan_bits_above}
 use Rattle.numbers.proofs.Casts.{only_nan}

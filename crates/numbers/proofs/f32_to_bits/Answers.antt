@@ -1,5 +1,5 @@
 -- `numbers::f32_to_bits` meets its contract. Assumes nothing.
-use Rattle.std.proofs.Common.{Bool, not, T, sym, ap, ◌∙◌, subst, rules}
+use Rattle.std.proofs.Common.{Bool, not, T, sym, ap, ◌∙◌, subst}
 use lib.Ieee.{binary32, to_bits}
 use Rattle.numbers.proofs.Casts.{ne_self, only_nan}
 use Rattle.numbers.proofs.f32_to_bits.Goals as goal

@@ -1,5 +1,5 @@
 -- `numbers::i32_as_f32` meets its contract. Assumes nothing.
-use Rattle.std.proofs.Common.{ap, ◌∙◌, rules}
+use Rattle.std.proofs.Common.{ap, ◌∙◌}
 use lib.Ieee.{binary32, of_int}
 use Rattle.numbers.proofs.Signed.{back}
 use Rattle.numbers.proofs.i32_as_f32.Goals as goal

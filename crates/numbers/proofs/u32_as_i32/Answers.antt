@@ -1,5 +1,5 @@
 -- `numbers::u32_as_i32` meets its contract. Assumes nothing.
-use Rattle.std.proofs.Common.{ℤ, sym, ap, ◌∙◌, subst, w32, SFits, to_z, of_z, rules}
+use Rattle.std.proofs.Common.{ℤ, sym, ap, ◌∙◌, subst, w32, SFits, to_z, of_z}
 use mir.ValLaws.{to_z-of_z, to_z-Fits}
 use Rattle.numbers.proofs.Signed.{lifted}
 use Rattle.numbers.proofs.u32_as_i32.Goals as goal

@@ -1,7 +1,6 @@
 -- `numbers::wrapping_sub_i32` meets its contract. Assumes nothing.
 use Rattle.numbers.specs.Words.{difference32, difference_signed}
 use Rattle.numbers.proofs.Signed.{by_bits}
-use Rattle.std.proofs.Common.{rules}
 use Rattle.numbers.proofs.wrapping_sub_i32.Goals as goal
 
 pub returns : goal.returns
