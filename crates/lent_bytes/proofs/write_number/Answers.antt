@@ -1,7 +1,6 @@
 -- `bytes::write_number` meets its contract. Assumes nothing.
 use native.Mathlib.Numerals.{add-one}
 use native.Mathlib.Omega.{arith}
-use borrow.Author.Rules.{rules}
 use lib.ListN.{length-set}
 use Rattle.lent_bytes.specs.TwoBytes.{two_bytes, with_number}
 use Rattle.lent_bytes.proofs.write_number.Goals as goal
