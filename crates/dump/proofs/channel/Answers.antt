@@ -2,8 +2,6 @@
 use mathlib.Core.Path.{sym, ◌∙◌}
 use native.Mathlib.Omega.{arith}
 use borrow.Author.Tests.{ne_eqb}
-use borrow.Author.Rules.{rules}
-use lib.ListN.{length-map}
 use Rattle.dump.specs.Dump.{channel_byte, dump_number, opened_of}
 use Rattle.dump.proofs.Numbers.{sound}
 use Rattle.dump.proofs.Places.{size_is}
@@ -21,7 +19,7 @@ bounds-dump-2 c =
     let form = c.args.form in
     let dump = c.args.dump.now in
     let long = (sound form dump (sym c.number-number.ensures ∙ c.if-number-ne0.false)).long in
-    omega (arith, long, size_is form (simp length-map at c.well_formed.1.0.1.1.0.1.0.1))
+    omega (arith, long, size_is form (omega arith))
 
 pub returns : goal.returns
 unfolding opened_of channel_byte

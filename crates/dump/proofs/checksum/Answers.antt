@@ -1,5 +1,4 @@
 -- `dump::checksum` meets its contract. The sum completes to 128. Assumes nothing.
-use borrow.Author.Rules.{rules}
 use Rattle.dump.specs.Dump.{checksum_of}
 use Rattle.dump.proofs.checksum.Goals as goal
 

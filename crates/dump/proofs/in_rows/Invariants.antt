@@ -1,13 +1,10 @@
 -- `dump::in_rows` meets its contract. The invariant: what is known of the first i rows and the rest are all of them.
 -- Assumes nothing.
-use mathlib.Core.Path.{◌≡◌, refl}
+use mathlib.Core.Path.{◌≡◌}
 use mathlib.Core.Bool.{◌&&◌}
 use Prim.Native.Nat.{◌-◌, ◌≤◌}
-use borrow.Author.Rules.{rules}
-use native.Mathlib.Omega.{arith}
 use lib.ListN.{drop}
 use Rattle.dump.specs.Dump.{in_rows}
-use Rattle.dump.proofs.Rows.{rows_next, rows_done}
 use Rattle.dump.proofs.in_rows.Given as goal
 
 abbrev pub invariant-loop-i : goal.invariant-loop-i

@@ -1,5 +1,4 @@
 -- `dump::yamaha_form` meets its contract. Assumes nothing.
-use borrow.Author.Rules.{rules}
 use Rattle.dump.specs.Dump.{yamaha_form}
 use Rattle.dump.proofs.yamaha_form.Goals as goal
 
