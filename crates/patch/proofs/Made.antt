@@ -37,7 +37,8 @@ unfolding operator_with operator_number scaling_with scaling_number
 operator_numbers_lem o h = rw (envelope_numbers o.envelope h)
 
 operators_listed : (os : List Operator) → length os ≡ 6
-    → operator_at os 0 ∷ operator_at os 1 ∷ operator_at os 2 ∷ operator_at os 3 ∷ operator_at os 4 ∷ operator_at os 5 ∷ []
+    → operator_at os 0 ∷ operator_at os 1 ∷ operator_at os 2 ∷ operator_at os 3 ∷ operator_at os 4 ∷ operator_at os 5
+    ∷ []
     ≡ os
 unfolding operator_at firsts
 operators_listed os e = listed no_operator 6 os e

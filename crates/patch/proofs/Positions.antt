@@ -22,14 +22,16 @@ in_order = refl
 
 -- the layout's numbers of a patch that is made of numbers are these
 pub numbers_with : (g : Place → ℕ) (a : ℕ) → map (number_of (patch_with g a)) layout ≡ map g layout
-unfolding layout operator_names envelope_names scaling_names lfo_names letters shared_names number_of patch_with operator_with
-    envelope_with scaling_with modulations_with name_with operator_at operator_number envelope_number scaling_number lfo_number
+unfolding layout operator_names envelope_names scaling_names lfo_names letters shared_names number_of patch_with
+    operator_with envelope_with scaling_with modulations_with name_with operator_at operator_number envelope_number
+    scaling_number lfo_number
 numbers_with g a = refl
 
 -- a patch that is made of numbers is made of their list
 pub by_position : (g : Place → ℕ) (a : ℕ) → patch_with (λ n. get_or (map g layout) (position n) 0) a ≡ patch_with g a
-unfolding position operator_position envelope_position scaling_position lfo_position layout operator_names envelope_names
-    scaling_names lfo_names letters shared_names patch_with operator_with envelope_with scaling_with modulations_with name_with
+unfolding position operator_position envelope_position scaling_position lfo_position layout operator_names
+    envelope_names scaling_names lfo_names letters shared_names patch_with operator_with envelope_with scaling_with
+    modulations_with name_with
 by_position g a = refl
 
 -- a patch that is made of numbers is made of the layout's

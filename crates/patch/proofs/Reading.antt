@@ -14,8 +14,8 @@ use Rattle.patch.proofs.Each.{Each, both_each, each_map, within_each}
 
 -- the packed form's largest numbers are the table's limits
 pub limits_of_packed : map (λ n. (field_of n).largest) layout ≡ map limit_of layout
-unfolding layout operator_names envelope_names scaling_names lfo_names letters shared_names field_of later operator_field
-    envelope_field scaling_field lfo_field
+unfolding layout operator_names envelope_names scaling_names lfo_names letters shared_names field_of later
+    operator_field envelope_field scaling_field lfo_field
 limits_of_packed = refl
 
 -- the layout's numbers of an unpacked patch are its fields read from the bytes

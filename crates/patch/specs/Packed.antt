@@ -1,6 +1,7 @@
 -- What unpacking and the limits of number 6 mean, for any table, and the entries over the patch's. To be believed; the
 -- entries' contracts cite these.
-use Rattle.std.specs.Prelude.{Bool, true, cond, ◌&&◌, List, [], ◌∷◌, ℕ, ◌/◌, ◌%◌, ◌^◌, min, length, get_or, eqb, leb, ltb}
+use Rattle.std.specs.Prelude.{Bool, true, cond, ◌&&◌, List, [], ◌∷◌, ℕ, ◌/◌, ◌%◌, ◌^◌, min, length, get_or, eqb, leb}
+use Rattle.std.specs.Prelude.{ltb}
 use Rattle.patch.specs.declared.KeyboardScaling.{KeyboardScaling}
 use Rattle.patch.specs.declared.Operator.{Operator}
 use Rattle.patch.specs.declared.ModulationParameters.{ModulationParameters}

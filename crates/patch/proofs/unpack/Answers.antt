@@ -1,6 +1,5 @@
 -- `patch::unpack` meets its contract. The length decides. Assumes nothing.
 use borrow.Author.Tests.{le-ltb, lt-ltb}
-use borrow.Author.Rules.{rules}
 use Rattle.patch.specs.Packed.{unpack_of}
 use Rattle.patch.proofs.unpack.Goals as goal
 

@@ -1,5 +1,4 @@
 -- `patch::unpack_modulations` meets its contract. Each field is read by `whole` or `field`. Assumes nothing.
-use borrow.Author.Rules.{rules}
 use Rattle.patch.specs.Packed.{bits_in, read_in}
 use Rattle.patch.specs.Form.{modulations_with}
 use Rattle.patch.specs.Layout.{lfo_field}

@@ -1,5 +1,4 @@
 -- `patch::unpack_name` meets its contract. Each letter is read by `letter`. Assumes nothing.
-use borrow.Author.Rules.{rules}
 use Rattle.patch.specs.Packed.{bits_in, read_in}
 use Rattle.patch.specs.Form.{name_with}
 use Rattle.patch.specs.Layout.{field_of}

@@ -1,5 +1,4 @@
 -- `patch::unpack_operators` meets its contract. Operator k is unpacked from byte 17 k. Assumes nothing.
-use borrow.Author.Rules.{rules}
 use Rattle.patch.specs.Packed.{unpacked}
 use Rattle.patch.specs.Form.{patch_with}
 use Rattle.patch.specs.Layout.{field_of}

@@ -1,6 +1,5 @@
 -- `patch::unpack_whole` meets its contract. The parts are unpacked by their own functions, the single numbers are read
 -- by `field`. Assumes nothing.
-use borrow.Author.Rules.{rules}
 use Rattle.patch.specs.Packed.{bits_in, read_in, unpacked}
 use Rattle.patch.specs.Form.{patch_with}
 use Rattle.patch.specs.Layout.{field_of}
