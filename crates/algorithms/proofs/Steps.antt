@@ -133,6 +133,12 @@ pub flags_agree : (flags : List Bool) (cs : List Call) (k : ℕ) (c : Call) → 
 unfolding unready
 flags_agree flags cs k c f i o = rw (f c.input i, f c.output o)
 
+-- a call's test by flags is the definition's
+pub flags_test : {b : Bool} (flags : List Bool) (cs : List Call) (k first n : ℕ) (os : List ℕ) (c : Call)
+    → b ≡ unready (λ q. get_or flags q false) c → c ≡ call_of first n os → Flags flags cs k → b ≡ unready (ready cs k) c
+flags_test flags cs k first n os c e d f =
+    e ∙ flags_agree flags cs k c f (call_input first n os c d) (call_output first n os c d)
+
 -- what stands behind the first k calls is nothing to them
 pub ready_before : (cs : List Call) (i k q : ℕ) (c : Call) → k ≤ i → ready (set cs i c) k q ≡ ready cs k q
 unfolding ready

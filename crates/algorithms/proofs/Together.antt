@@ -1,7 +1,7 @@
 -- A row and a plan walked together: a plan's first calls, and what each test of the walk says of the whole row.
 -- Assumes nothing.
 use mathlib.Core.Path.{◌≡◌, refl, sym, ap, ◌∙◌}
-use mathlib.Core.Bool.{Bool, true, false, cond, ◌&&◌, true≢false, and-eq-true_iff}
+use mathlib.Core.Bool.{Bool, true, false, ◌&&◌, true≢false, and-eq-true_iff}
 use Prim.Native.Nat.{ℕ, zero, suc, ◌+◌, ◌-◌, ◌≤◌, ◌<◌}
 use native.Mathlib.Decide.{dec_lt}
 use native.Mathlib.Numerals.{add-one}
@@ -12,7 +12,7 @@ use lib.ListN.{length, get_or, set, drop, length-set}
 use lib.Seq.{get_or-set_same, get_or-set_other}
 use borrow.Author.Tests.{eqb-true, eq-eqb, ne_eqb}
 use Rattle.algorithms.specs.Chain.{rendered}
-use Rattle.algorithms.specs.Plan.{no_call, no_plan, call_of, ready, unready, extended, refusal, plan_from, counted}
+use Rattle.algorithms.specs.Plan.{no_call, no_plan, call_of, extended, refusal, plan_from, counted}
 use Rattle.algorithms.specs.Plan.{planned, same_call, same_calls, same_plan, is_plan_of, first_calls}
 use Rattle.algorithms.specs.declared.Call.{Call}
 use Rattle.algorithms.specs.declared.Plan.{Plan}

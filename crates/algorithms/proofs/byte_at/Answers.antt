@@ -1,7 +1,6 @@
 -- `algorithms::byte_at` meets its contract. Assumes nothing.
 use mathlib.Core.Path.{sym}
 use lib.ListN.{get_or-eq_default}
-use borrow.Author.Rules.{rules}
 use Rattle.algorithms.proofs.byte_at.Goals as goal
 
 pub returns : goal.returns

@@ -1,7 +1,6 @@
 -- `algorithms::call_length` meets its contract. Assumes nothing.
 use Rattle.algorithms.proofs.Lengths.{chained_at, few_one, dry_at, long_at, unadded_at, unflagged_at, chain_at_lem}
 use native.Mathlib.Omega.{arith}
-use borrow.Author.Rules.{rules}
 use Rattle.algorithms.proofs.call_length.Goals as goal
 
 pub returns-then-source_of-ne3 : goal.returns-then-source_of-ne3

@@ -1,6 +1,5 @@
 -- `algorithms::call_of` meets its contract. Assumes nothing.
 use Rattle.algorithms.proofs.Calls.{call_at}
-use borrow.Author.Rules.{rules}
 use Rattle.algorithms.proofs.call_of.Goals as goal
 
 pub returns : goal.returns

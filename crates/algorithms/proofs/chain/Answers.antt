@@ -1,6 +1,5 @@
 -- `algorithms::chain` meets its contract. Assumes nothing.
 use Rattle.algorithms.proofs.Lengths.{cut_chain, kept_chain}
-use borrow.Author.Rules.{rules}
 use Rattle.algorithms.proofs.chain.Goals as goal
 
 pub is_reused-requires : goal.is_reused-requires

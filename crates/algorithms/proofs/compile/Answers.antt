@@ -1,7 +1,6 @@
 -- `algorithms::compile` meets its contract. Assumes nothing.
 use mathlib.Core.Path.{sym, ◌∙◌}
 use Rattle.algorithms.proofs.Tables.{compiled_row, compiled_refused}
-use borrow.Author.Rules.{rules}
 use Rattle.algorithms.proofs.compile.Goals as goal
 
 pub row_of-bytes-requires : goal.row_of-bytes-requires

@@ -1,13 +1,8 @@
 -- `algorithms::ends_at` meets its contract. The loop's invariant: the calls from i on decide. Assumes nothing.
-use mathlib.Core.Path.{◌≡◌, sym, ◌∙◌}
+use mathlib.Core.Path.{◌≡◌}
 use Prim.Native.Nat.{◌≤◌, ◌-◌}
-use lib.ListN.{length, drop, length-map}
-use borrow.Author.Tests.{not-true, not-false}
+use lib.ListN.{drop}
 use Rattle.algorithms.specs.Plan.{same_calls, same_plan, first_calls}
-use Rattle.algorithms.proofs.Same.{same_done}
-use Rattle.algorithms.proofs.Together.{first_slots, other_count, first_same, some_behind, none_behind}
-use borrow.Author.Rules.{rules}
-use native.Mathlib.Omega.{arith}
 use Rattle.algorithms.proofs.ends_at.Given as goal
 
 abbrev pub invariant-loop-i : goal.invariant-loop-i

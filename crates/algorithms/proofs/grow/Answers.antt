@@ -1,11 +1,7 @@
--- `algorithms::grow` meets its contract. The loop's invariant: the chain from `first` is as long as what was passed
--- and the chain from `last` on. Assumes nothing.
-use Prim.Native.Nat.{◌≤◌, ◌<◌, ◌+◌, ◌-◌}
-use mathlib.Core.Path.{◌≡◌, sym, ◌∙◌}
-use borrow.Author.Tests.{not-true, not-false}
-use Rattle.algorithms.specs.Chain.{row_from, Within, grown}
+-- `algorithms::grow` meets its contract. Assumes nothing.
+use mathlib.Core.Path.{sym, ◌∙◌}
+use Rattle.algorithms.specs.Chain.{Within}
 use Rattle.algorithms.proofs.Lengths.{last_at, end_at, more_at}
-use borrow.Author.Rules.{rules}
 use native.Mathlib.Omega.{arith}
 use Rattle.algorithms.proofs.grow.Goals as goal
 
@@ -14,16 +10,19 @@ loop-last-init c = (omega arith, c.requires.one, omega arith)
 
 pub returns-then-not-grows : goal.returns-then-not-grows
 returns-then-not-grows c =
-    let w : Within c.args.operators c.loop-last.last c.args.row.now = record { whole = c.requires.whole; most = c.requires.most; one = c.loop-last.invariant.1 } in
-    omega (arith, end_at _ _ _ w (omega arith) (sym c.grows.ensures ∙ not-true _ c.if-not-grows.true))
+    let w : Within c.args.operators c.loop-last.last c.args.row.now =
+    record { whole = c.requires.whole; most = c.requires.most; one = c.loop-last.invariant.1 } in
+    omega (arith, end_at _ _ _ w (omega arith) (sym c.grows.ensures ∙ c.if-not-grows.true))
 
 pub loop-last-preserved : goal.loop-last-preserved
 loop-last-preserved c =
-    let w : Within c.args.operators c.loop-last.last c.args.row.now = record { whole = c.requires.whole; most = c.requires.most; one = c.loop-last.invariant.1 } in
-    let x = more_at _ _ _ w (omega arith) (sym c.grows.ensures ∙ not-false _ c.if-not-grows.false) in
+    let w : Within c.args.operators c.loop-last.last c.args.row.now =
+    record { whole = c.requires.whole; most = c.requires.most; one = c.loop-last.invariant.1 } in
+    let x = more_at _ _ _ w (omega arith) (sym c.grows.ensures ∙ c.if-not-grows.false) in
     (omega arith, omega arith, omega (arith, x))
 
 pub returns : goal.returns
 returns c =
-    let w : Within c.args.operators c.loop-last.last c.args.row.now = record { whole = c.requires.whole; most = c.requires.most; one = c.loop-last.invariant.1 } in
+    let w : Within c.args.operators c.loop-last.last c.args.row.now =
+    record { whole = c.requires.whole; most = c.requires.most; one = c.loop-last.invariant.1 } in
     omega (arith, last_at _ _ _ w (omega arith))

@@ -1,12 +1,8 @@
 -- `algorithms::grow` meets its contract. The loop's invariant: the chain from `first` is as long as what was passed
 -- and the chain from `last` on. Assumes nothing.
 use Prim.Native.Nat.{◌≤◌, ◌<◌, ◌+◌, ◌-◌}
-use mathlib.Core.Path.{◌≡◌, sym, ◌∙◌}
-use borrow.Author.Tests.{not-true, not-false}
-use Rattle.algorithms.specs.Chain.{row_from, Within, grown}
-use Rattle.algorithms.proofs.Lengths.{last_at, end_at, more_at}
-use borrow.Author.Rules.{rules}
-use native.Mathlib.Omega.{arith}
+use mathlib.Core.Path.{◌≡◌}
+use Rattle.algorithms.specs.Chain.{row_from, grown}
 use Rattle.algorithms.proofs.grow.Given as goal
 
 abbrev pub invariant-loop-last : goal.invariant-loop-last

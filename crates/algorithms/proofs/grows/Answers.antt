@@ -1,6 +1,5 @@
 -- `algorithms::grows` meets its contract. Assumes nothing.
 use Rattle.algorithms.proofs.Lengths.{grows_unmet, grows_met}
-use borrow.Author.Rules.{rules}
 use Rattle.algorithms.proofs.grows.Goals as goal
 
 pub returns-then-destination_of-source_of : goal.returns-then-destination_of-source_of

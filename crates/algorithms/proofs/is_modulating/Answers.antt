@@ -4,7 +4,6 @@ use mathlib.Core.Bool.{not}
 use Prim.Native.Nat.{ℕ}
 use lib.Dec.{eqb}
 use Rattle.algorithms.specs.Opcode.{modulating}
-use borrow.Author.Rules.{rules}
 use Rattle.algorithms.proofs.is_modulating.Goals as goal
 
 pub returns : goal.returns

@@ -1,7 +1,6 @@
 -- `algorithms::is_reused` meets its contract. Assumes nothing.
 use Rattle.algorithms.proofs.Lengths.{grown_at, reused_at, reused_never}
 use native.Mathlib.Omega.{arith}
-use borrow.Author.Rules.{rules}
 use Rattle.algorithms.proofs.is_reused.Goals as goal
 
 pub overflow_add-next : goal.overflow_add-next

@@ -2,7 +2,6 @@
 use mathlib.Core.Bool.{false}
 use lib.ListN.{get_or}
 use Rattle.algorithms.proofs.Calls.{unready_read, unready_add}
-use borrow.Author.Rules.{rules}
 use Rattle.algorithms.proofs.is_unready.Goals as goal
 
 pub returns-then-lacks : goal.returns-then-lacks

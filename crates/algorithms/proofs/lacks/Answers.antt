@@ -1,5 +1,4 @@
 -- `algorithms::lacks` meets its contract. Assumes nothing.
-use borrow.Author.Rules.{rules}
 use Rattle.algorithms.proofs.lacks.Goals as goal
 
 pub returns-then-asked : goal.returns-then-asked

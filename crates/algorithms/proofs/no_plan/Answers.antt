@@ -1,5 +1,4 @@
 -- `algorithms::no_plan` meets its contract. Assumes nothing.
-use borrow.Author.Rules.{rules}
 use Rattle.algorithms.proofs.no_plan.Goals as goal
 
 pub returns : goal.returns

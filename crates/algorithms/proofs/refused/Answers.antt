@@ -1,5 +1,4 @@
 -- `algorithms::refused` meets its contract. Assumes nothing.
-use borrow.Author.Rules.{rules}
 use Rattle.algorithms.proofs.refused.Goals as goal
 
 pub returns : goal.returns

@@ -1,6 +1,5 @@
 -- `algorithms::rendered_length` meets its contract. Assumes nothing.
 use Rattle.algorithms.proofs.Lengths.{several_at, dry_rendered, own_rendered, none_rendered}
-use borrow.Author.Rules.{rules}
 use Rattle.algorithms.proofs.rendered_length.Goals as goal
 
 pub returns-then-n-ne1 : goal.returns-then-n-ne1

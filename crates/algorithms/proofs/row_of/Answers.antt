@@ -5,7 +5,6 @@ use mathlib.Core.Path.{◌∙◌}
 use Rattle.algorithms.specs.Table.{row_of}
 use Rattle.algorithms.proofs.Tables.{row_fits}
 use native.Mathlib.Omega.{arith}
-use borrow.Author.Rules.{rules}
 use Rattle.algorithms.proofs.row_of.Goals as goal
 
 pub overflow_mul-start : goal.overflow_mul-start

@@ -1,20 +1,12 @@
--- `algorithms::same_plan` meets its contract. The loop's invariant: the calls from k on decide. Assumes nothing.
+-- `algorithms::same_plan` meets its contract: a plan has room for six calls. Assumes nothing.
 use mathlib.Core.Path.{◌≡◌, refl, sym, ◌∙◌}
-use Prim.Native.Nat.{◌≤◌, ◌-◌}
-use lib.ListN.{length, drop, length-map}
-use borrow.Author.Tests.{eq-eqb, ne_eqb, not-true, not-false}
-use Rattle.algorithms.specs.Plan.{same_calls, same_plan}
+use lib.ListN.{length}
+use borrow.Author.Tests.{eq-eqb, ne_eqb}
+use Rattle.algorithms.specs.Plan.{same_plan}
 use Rattle.algorithms.proofs.Same.{same_more, same_less, same_done}
 use borrow.Author.Rules.{rules}
 use native.Mathlib.Omega.{arith}
 use Rattle.algorithms.proofs.same_plan.Goals as goal
-
--- a plan has room for six calls
-long_a : (c : goal.Start) → length c.args.t1.calls ≡ 6
-long_a c = simp length-map at c.well_formed.0.1.1.1.0.1.0.1
-
-long_b : (c : goal.Start) → length c.args.t2.calls ≡ 6
-long_b c = simp length-map at c.well_formed.1.0.1.1.1.0.1.0.1
 
 pub returns-then-a-b : goal.returns-then-a-b
 unfolding same_plan
@@ -26,13 +18,26 @@ loop-k-init c = (omega arith, refl)
 pub returns-then-not-same_call : goal.returns-then-not-same_call
 unfolding same_plan
 returns-then-not-same_call c =
-    rw (eq-eqb _ _ c.if-a-b.false) (sym (sym c.loop-k.invariant.1 ∙ same_less c.args.t1.calls c.args.t2.calls c.loop-k.k (omega (arith, long_a c.before.before.before.before.before.before.before)) (omega (arith, long_b c.before.before.before.before.before.before.before)) (sym c.same_call.ensures ∙ not-true _ c.if-not-same_call.true)))
+    let la : length c.args.a.calls ≡ 6 = search rules in
+    let lb : length c.args.b.calls ≡ 6 = search rules in
+    let e =
+    same_less c.args.a.calls c.args.b.calls c.loop-k.k (omega arith) (omega arith)
+    (sym c.same_call.ensures ∙ c.if-not-same_call.true) in
+    rw (eq-eqb _ _ c.if-a-b.false) (sym (sym c.loop-k.invariant.1 ∙ e))
 
 pub loop-k-preserved : goal.loop-k-preserved
 loop-k-preserved c =
-    (omega arith, sym (same_more c.args.t1.calls c.args.t2.calls c.loop-k.k (omega (arith, long_a c.before.before.before.before.before.before.before)) (omega (arith, long_b c.before.before.before.before.before.before.before)) (sym c.same_call.ensures ∙ not-false _ c.if-not-same_call.false)) ∙ c.loop-k.invariant.1)
+    let la : length c.args.a.calls ≡ 6 = search rules in
+    let lb : length c.args.b.calls ≡ 6 = search rules in
+    let e =
+    same_more c.args.a.calls c.args.b.calls c.loop-k.k (omega arith) (omega arith)
+    (sym c.same_call.ensures ∙ c.if-not-same_call.false) in
+    (omega arith, sym e ∙ c.loop-k.invariant.1)
 
 pub returns : goal.returns
 unfolding same_plan
 returns c =
-    rw (eq-eqb _ _ c.if-a-b.false) (sym (same_done c.args.t1.calls c.args.t2.calls c.loop-k.k (omega (arith, long_a c.before.before.before)) (omega (arith, long_b c.before.before.before))) ∙ c.loop-k.invariant.1)
+    let la : length c.args.a.calls ≡ 6 = search rules in
+    let lb : length c.args.b.calls ≡ 6 = search rules in
+    let e = same_done c.args.a.calls c.args.b.calls c.loop-k.k (omega arith) (omega arith) in
+    rw (eq-eqb _ _ c.if-a-b.false) (sym e ∙ c.loop-k.invariant.1)

@@ -1,12 +1,8 @@
 -- `algorithms::same_plan` meets its contract. The loop's invariant: the calls from k on decide. Assumes nothing.
-use mathlib.Core.Path.{◌≡◌, refl, sym, ◌∙◌}
+use mathlib.Core.Path.{◌≡◌}
 use Prim.Native.Nat.{◌≤◌, ◌-◌}
-use lib.ListN.{length, drop, length-map}
-use borrow.Author.Tests.{eq-eqb, ne_eqb, not-true, not-false}
-use Rattle.algorithms.specs.Plan.{same_calls, same_plan}
-use Rattle.algorithms.proofs.Same.{same_more, same_less, same_done}
-use borrow.Author.Rules.{rules}
-use native.Mathlib.Omega.{arith}
+use lib.ListN.{drop}
+use Rattle.algorithms.specs.Plan.{same_calls}
 use Rattle.algorithms.proofs.same_plan.Given as goal
 
 abbrev pub invariant-loop-k : goal.invariant-loop-k

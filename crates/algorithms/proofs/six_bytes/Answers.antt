@@ -1,6 +1,5 @@
 -- `algorithms::six_bytes` meets its contract. Assumes nothing.
 use Rattle.algorithms.specs.Table.{six}
-use borrow.Author.Rules.{rules}
 use Rattle.algorithms.proofs.six_bytes.Goals as goal
 
 pub returns : goal.returns
