@@ -43,8 +43,8 @@ fn line(table: &[f32], place: f32) -> f32
 
 // A place's whole part as f32: from 2^24 on every f32 is whole, so it is the place itself.
 fn whole_part(place: f32, integral: usize) -> f32
-    requires fact_1 { integral ≡ to_unsigned 64 place }
-    requires fact_2 { integral < 2 ^ 64 - 1 }
+    requires whole { integral ≡ to_unsigned 64 place }
+    requires below_max { integral < 2 ^ 64 - 1 }
     ensures { result ≡ of_int binary32 (pos integral) }
 {
     if integral < 16777216 {
