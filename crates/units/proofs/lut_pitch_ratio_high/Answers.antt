@@ -3,12 +3,8 @@ use mathlib.Core.Path.{refl}
 use lib.Ieee.{of_bits}
 use Rattle.numbers.specs.F32.{decimal}
 use Rattle.units.specs.Tables.{lut_pitch_ratio_high}
-use Rattle.units.proofs.lut_pitch_ratio_high.Statement.{statement}
-use Rattle.units.proofs.lut_pitch_ratio_high.Tie as tie
+use Rattle.units.proofs.lut_pitch_ratio_high.Goals as goal
 
-returns : tie.Need-returns
+pub returns : goal.returns
 unfolding lut_pitch_ratio_high decimal of_bits
 returns c = refl
-
-pub lut_pitch_ratio_high_spec : {M : Type 1} → statement M
-lut_pitch_ratio_high_spec = tie.close (tie.spec returns)
