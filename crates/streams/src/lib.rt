@@ -4,12 +4,21 @@
 // their callers.
 #![tactic(auto)]
 
-ghost use Rattle.std.specs.Prelude.{◌≡◌, ◌≤◌, min, length};
+ghost use Rattle.std.specs.Prelude.{◌≡◌, ◌≤◌, min, length, IfOk};
 
-use libc::{STDERR_FILENO, STDOUT_FILENO};
+use std::fmt::Display;
+use std::io;
+use std::io::{Read, Stderr, Stdout, Write};
 
 // Room for a line: a file's name, and what follows it.
 const LINE: usize = 4352;
+
+// Where a program's lines go.
+#[derive(Clone, Copy)]
+pub struct Streams {
+    pub out: Stdout,
+    pub err: Stderr,
+}
 
 pub fn least(a: usize, b: usize) -> usize
     ensures { result ≡ min a b }
@@ -23,23 +32,47 @@ pub fn put(line: &mut [u8], at: usize, piece: &[u8]) -> usize {
         return at;
     }
     let n = least(piece.len(), line.len() - at);
-    let mut k = 0usize;
-    while k < n {
+    for k in 0..n {
         line[at + k] = piece[k];
-        k += 1;
     }
     at + n
 }
 
+// A text at the start of a buffer, as far as there is room; the answer is its length.
+fn format<D: Display + Drop>(text: D, out: &mut [u8]) -> usize
+    ensures { result ≤ length out.new }
+{
+    let room = out.len();
+    let mut rest: &mut [u8] = out;
+    let _ = rest.write_fmt(text);
+    room.saturating_sub(rest.len())
+}
+
+// A number's decimal digits at the start of a buffer; the answer is how many there are.
+pub fn decimal(n: u64, out: &mut [u8; 20]) -> usize
+    ensures { result ≤ 20 }
+{
+    format(n, out)
+}
+
+// A number's hexadecimal digits, in lower case, with zeros in front up to a width of 1 to 16 digits, at the start of a
+// buffer; the answer is how many there are.
+pub fn hex(n: u64, width: usize, out: &mut [u8; 16]) -> usize
+    ensures { result ≤ 16 }
+{
+    let digits = width.clamp(1, 16);
+    format(format_args!("{n:0digits$x}"), out)
+}
+
 pub fn put_decimal(line: &mut [u8], at: usize, n: u64) -> usize {
     let mut text = [0u8; 20];
-    let k = io::decimal(n, &mut text);
+    let k = decimal(n, &mut text);
     put(line, at, &text[..k])
 }
 
 pub fn put_hex(line: &mut [u8], at: usize, n: u64, width: usize) -> usize {
     let mut text = [0u8; 16];
-    let k = io::hex(n, width, &mut text);
+    let k = hex(n, width, &mut text);
     put(line, at, &text[..k])
 }
 
@@ -50,22 +83,42 @@ pub fn put_refusal(line: &mut [u8], at: usize, number: u8) -> usize {
     put(line, at, &text[..k])
 }
 
-// The first bytes of a buffer to standard output. The answer says whether they were written; if not, that is told.
-pub fn write(buffer: &[u8], n: usize) -> bool {
-    let start = 0usize;
-    let end = least(n, buffer.len());
-    let written = io::write_all(STDOUT_FILENO, &buffer[start..end]);
-    if !written {
-        os::fail(b"standard output");
+// Where the system's words for a failure end: its number stands behind them.
+fn words_end(text: &[u8]) -> usize
+    ensures { result ≤ length text.now }
+{
+    for k in 0..text.len() {
+        if text[k..].starts_with(b" (os error ") {
+            return k;
+        }
     }
-    written
+    text.len()
 }
 
-// The first bytes of a line to standard error.
-pub fn tell(line: &[u8], n: usize) {
-    let start = 0usize;
+// Why a call failed.
+pub fn put_reason(line: &mut [u8], at: usize, error: &io::Error) -> usize {
+    let mut text = [0u8; 256];
+    let k = format(*error, &mut text);
+    let words = &text[..k];
+    put(line, at, &words[..words_end(words)])
+}
+
+// The first bytes of a buffer to standard output. The answer says whether they were written; if not, that is told.
+pub fn write(to: Streams, buffer: &[u8], n: usize) -> bool {
+    let end = least(n, buffer.len());
+    match to.out.write_all(&buffer[..end]) {
+        Ok(()) => true,
+        Err(error) => {
+            fail(to, b"standard output", &error);
+            false
+        }
+    }
+}
+
+// The first bytes of a line to standard error. Where that fails there is nowhere to tell it.
+pub fn tell(to: Streams, line: &[u8], n: usize) {
     let end = least(n, line.len());
-    io::write_all(STDERR_FILENO, &line[start..end]);
+    let _ = to.err.write_all(&line[..end]);
 }
 
 // What leads a line: a name and a tab, if there is a name.
@@ -86,46 +139,51 @@ fn put_line(line: &mut [u8], name: &[u8], head: &[u8], tail: &[u8]) -> usize {
 
 // A line to standard output, led by a name. It is written by one call, so that the lines of several processes do not
 // mix.
-pub fn print_line(name: &[u8], head: &[u8], tail: &[u8]) -> bool {
+pub fn print_line(to: Streams, name: &[u8], head: &[u8], tail: &[u8]) -> bool {
     let mut line = [0u8; LINE];
     let n = put_line(&mut line, name, head, tail);
-    write(&line, n)
+    write(to, &line, n)
 }
 
 // A line to standard error, likewise.
-pub fn tell_line(name: &[u8], head: &[u8], tail: &[u8]) {
+pub fn tell_line(to: Streams, name: &[u8], head: &[u8], tail: &[u8]) {
     let mut line = [0u8; LINE];
     let n = put_line(&mut line, name, head, tail);
-    tell(&line, n);
+    tell(to, &line, n);
 }
 
 // The line of a refusal: what stands before it, and its number and words.
-pub fn tell_refusal(name: &[u8], head: &[u8], number: u8) {
+pub fn tell_refusal(to: Streams, name: &[u8], head: &[u8], number: u8) {
     let mut text = [0u8; refusals::ROOM];
     let k = refusals::text(number, &mut text);
-    tell_line(name, head, &text[..k]);
+    tell_line(to, name, head, &text[..k]);
 }
 
 // The line of a refusal, with a place behind the words.
-pub fn tell_refusal_at(name: &[u8], number: u8, what: &[u8], place: u64) {
+pub fn tell_refusal_at(to: Streams, name: &[u8], number: u8, what: &[u8], place: u64) {
     let mut text = [0u8; 128];
     let a = put_refusal(&mut text, 0, number);
     let b = put(&mut text, a, what);
     let mut digits = [0u8; 20];
-    let k = io::decimal(place, &mut digits);
-    let start = 0usize;
+    let k = decimal(place, &mut digits);
     let end = least(b, 128);
-    tell_line(name, &text[start..end], &digits[..k]);
+    tell_line(to, name, &text[..end], &digits[..k]);
 }
 
-// What failed with a named file, and why the last call failed.
-pub fn tell_why(name: &[u8], what: &[u8]) {
+// What failed with a named file, and why.
+pub fn tell_why(to: Streams, name: &[u8], what: &[u8], error: &io::Error) {
     let mut line = [0u8; LINE];
     let a = put_lead(&mut line, name);
     let b = put(&mut line, a, what);
-    let start = 0usize;
-    let end = least(b, LINE);
-    os::fail(&line[start..end]);
+    let c = put(&mut line, b, b": ");
+    let d = put_reason(&mut line, c, error);
+    let e = put(&mut line, d, b"\n");
+    tell(to, &line, e);
+}
+
+// What failed, and why.
+pub fn fail(to: Streams, what: &[u8], error: &io::Error) {
+    tell_why(to, b"", what, error);
 }
 
 // A letter as it is printed: '.' for one outside 20 to 7E.
@@ -157,13 +215,12 @@ pub fn patch_columns(slot: usize, name: [u8; 10]) -> [u8; 14] {
 }
 
 // A window over what is read: the bytes from `at` up to `end` of its buffer wait. `ended` says that no more will
-// come, `failed` that a read failed.
+// come.
 #[derive(Clone, Copy)]
 pub struct Window {
     pub at: usize,
     pub end: usize,
     pub ended: bool,
-    pub failed: bool,
 }
 
 pub fn closed() -> Window {
@@ -171,7 +228,6 @@ pub fn closed() -> Window {
         at: 0,
         end: 0,
         ended: false,
-        failed: false,
     }
 }
 
@@ -186,26 +242,38 @@ pub fn waiting<'a>(buffer: &'a [u8], w: Window) -> &'a [u8] {
 fn keep(buffer: &mut [u8], at: usize, end: usize)
     requires { end ≤ length buffer.old }
 {
-    let mut i = at;
-    while i < end {
+    for i in at..end {
         buffer[i - at] = buffer[i];
-        i += 1;
     }
 }
 
 // One read behind the bytes that wait, which it moves to the buffer's start. A full buffer ends the window.
-pub fn refill(fd: i32, buffer: &mut [u8], w: Window) -> Window {
+pub fn refill<R: Read>(from: &mut R, buffer: &mut [u8], w: Window) -> io::Result<Window>
+    ensures { IfOk result (λ next. next.end ≤ length buffer.new) }
+{
     let end = least(w.end, buffer.len());
     let at = least(w.at, end);
     keep(buffer, at, end);
     let held = end - at;
-    let rest = &mut buffer[held..];
-    let got = libc::read(fd, rest);
-    let more = io::count(got, rest);
-    Window {
+    let more = from.read(&mut buffer[held..])?;
+    Ok(Window {
         at: 0,
-        end: std::num::wrapping_add_usize(held, more),
+        end: held + more,
         ended: more == 0,
-        failed: got < 0,
+    })
+}
+
+// Reads until a buffer is full or no more comes; the answer is how many bytes it put at the buffer's start.
+pub fn read_full<R: Read>(from: &mut R, buffer: &mut [u8]) -> io::Result<usize>
+    ensures { IfOk result (λ n. n ≤ length buffer.new) }
+{
+    let mut held = 0usize;
+    while held < buffer.len() {
+        let more = from.read(&mut buffer[held..])?;
+        if more == 0 {
+            break;
+        }
+        held += more;
     }
+    Ok(held)
 }

@@ -1,7 +1,6 @@
 -- `refusals::digit` meets its contract. Assumes nothing.
 use mathlib.Core.Path.{refl}
 use Rattle.refusals.specs.Refusals.{digit}
-use borrow.Author.Rules.{rules}
 use Rattle.refusals.proofs.digit.Goals as goal
 
 pub returns : goal.returns

@@ -1,14 +1,10 @@
 -- `refusals::put` meets its contract. The loop's invariant: what is still to come, written behind what was, gives the
 -- whole sentence. Assumes nothing.
-use mathlib.Core.Path.{◌≡◌, sym, ap, ◌∙◌}
-use Prim.Native.Nat.{ℕ, ◌≤◌, ◌+◌, ◌-◌}
-use native.Mathlib.Nat.{add-zero}
-use native.Mathlib.Omega.{arith}
-use mathlib.Core.List.{List}
-use lib.ListN.{length, drop, get_or}
+use mathlib.Core.Path.{◌≡◌}
+use Prim.Native.Nat.{◌≤◌, ◌+◌, ◌-◌}
+use lib.ListN.{length, drop}
 use lib.Seq.{sets}
 use Rattle.refusals.specs.Table.{sentence}
-use Rattle.refusals.proofs.Pieces.{sentence_stops, sentence_ends, put_more, longer, put_whole}
 use Rattle.refusals.proofs.put.Given as goal
 
 abbrev pub invariant-loop-k : goal.invariant-loop-k

@@ -1,6 +1,5 @@
 -- `refusals::put_number` meets its contract. Assumes nothing.
 use Rattle.refusals.proofs.Pieces.{one_digit, two_digits, three_digits}
-use borrow.Author.Rules.{rules}
 use Rattle.refusals.proofs.put_number.Goals as goal
 
 pub returns-then-n-lt10 : goal.returns-then-n-lt10

@@ -3,7 +3,6 @@ use borrow.Author.Tests.{le-leb, lt-leb}
 use Rattle.refusals.specs.Refusals.{letters}
 use Rattle.refusals.specs.Table.{row, sentence}
 use Rattle.refusals.proofs.Pieces.{width}
-use borrow.Author.Rules.{rules}
 use Rattle.refusals.proofs.put_row.Goals as goal
 
 pub returns-then-end-table : goal.returns-then-end-table

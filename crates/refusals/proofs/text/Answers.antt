@@ -4,7 +4,6 @@ use native.Mathlib.Omega.{arith}
 use Rattle.refusals.specs.Refusals.{letters, words}
 use Rattle.refusals.specs.Table.{sentence}
 use Rattle.refusals.proofs.Pieces.{then, decimal_size, rows, told}
-use borrow.Author.Rules.{rules}
 use Rattle.refusals.proofs.text.Goals as goal
 
 pub put_number-b-requires : goal.put_number-b-requires
