@@ -6,7 +6,7 @@ use Prim.Native.Nat.{ℕ, ◌*◌, ◌^◌, ◌<◌, ◌≤◌}
 use native.Mathlib.Nat.{mul-le-mul_left, mul_assoc}
 use native.Mathlib.Omega.{arith}
 use lib.Dec.{T}
-use lib.IntN.{ℤ, pos, negsuc}
+use lib.IntN.{pos, negsuc}
 use lib.Pow.{pow_pos}
 use lib.Ieee.{Float, fin, binary32, binary64, low, lt, le, eq, mul, round, fits, is_nan, to_unsigned, to_signed, in_signed}
 use lib.Ieee.Bits.{is_true}
@@ -18,7 +18,7 @@ use mir.Syntax.{w32}
 use mir.Val.{to_z, of_z}
 use mir.ValLaws.{to_z_pos}
 use Rattle.numbers.specs.F32.{◌⊕◌, ◌⊗◌}
-use Rattle.numbers.proofs.Views.{AtLeast, ge_fin, at_least, Under, lt_fin}
+use Rattle.numbers.proofs.Views.{AtLeast, ge_inf, ge_fin, at_least, Under, lt_fin}
 use Rattle.numbers.proofs.Casts.{no_fraction, digits_lt}
 use Rattle.sine.proofs.Near.{lift, per_turn, lowest, highest, Within, at_most, fewer, near_within, within_whole}
 use Rattle.sine.proofs.Near.{within_below}
@@ -49,10 +49,12 @@ data Whole : Float → Type 0 where
   is_whole : (x : Float) (n : ℕ) → n < 2 ^ 31 → HasValue x false n 1 → Whole x
 
 whole : (x : Float) → T (fits binary32 x) → AtLeast 23 x → Under 31 x → Whole x
+whole _ f ge_inf u = elim u [ ]
 whole _ f (ge_fin m (negsuc k) g) u = absurd (no_fraction m k (digits_lt m (negsuc k) f) g)
 whole _ f (ge_fin m (pos k) g) (lt_fin _ _ l) = is_whole (fin false m (pos k)) (m * 2 ^ k) (omega arith) (refl, refl)
 
 half_finite : (x : Float) → AtLeast 23 x → Under 31 x → T (finite x)
+half_finite _ ge_inf u = elim u [ ]
 half_finite _ (ge_fin m e g) u = tt
 
 normal : (n d u : ℕ) → d ≤ n → 0 < u → 2 ^ 23 * (d * 1) ≤ n * 2 ^ 25 * u

@@ -2,7 +2,7 @@
 -- since a power of two moves the exponent alone. Assumes nothing.
 use mathlib.Core.Path.{◌≡◌, refl, sym, ap, ◌∙◌, subst}
 use mathlib.Core.Bool.{true, false, ◌&&◌}
-use Prim.Native.Nat.{ℕ, ◌*◌, ◌-◌, ◌/◌, ◌%◌, ◌^◌, ◌<◌, ◌≤◌}
+use Prim.Native.Nat.{ℕ, ◌*◌, ◌/◌, ◌%◌, ◌^◌, ◌<◌, ◌≤◌}
 use native.Mathlib.Nat.{mul-le-mul_left, mul_assoc, mul-one, mul_right_comm, mul-div_cancel, mul-mod_left}
 use native.Mathlib.Nat.{eq_of_mul-eq-mul_right}
 use native.Mathlib.Omega.{arith}
@@ -19,7 +19,7 @@ use mir.Syntax.{w64}
 use mir.Val.{to_z, of_z}
 use mir.ValLaws.{to_z_pos}
 use Rattle.numbers.specs.F32.{◌⊕◌, ◌⊗◌}
-use Rattle.numbers.proofs.Views.{on, AtLeast, ge_fin, Under, lt_fin}
+use Rattle.numbers.proofs.Views.{on, AtLeast, ge_inf, ge_fin, Under, lt_fin}
 use Rattle.numbers.proofs.Casts.{no_fraction, digits_lt}
 use Rattle.sine.proofs.Near.{lift, per_turn, lowest, highest, Within, near_within, within_whole, within_below}
 
@@ -100,11 +100,13 @@ data Whole : Float → Type 0 where
   is_whole : (x : Float) (n : ℕ) → n < 2 ^ 32 → HasValue x false n 1 → Whole x
 
 large_whole : (x : Float) → T (fits binary32 x) → AtLeast 23 x → Under 32 x → Whole x
+large_whole _ f ge_inf u = elim u [ ]
 large_whole _ f (ge_fin m (negsuc k) g) u = absurd (no_fraction m k (digits_lt m (negsuc k) f) g)
 large_whole _ f (ge_fin m (pos k) g) (lt_fin _ _ l) =
     is_whole (fin false m (pos k)) (m * 2 ^ k) (omega arith) (refl, refl)
 
 pub large_finite : (x : Float) → AtLeast 23 x → Under 32 x → T (finite x)
+large_finite _ ge_inf u = elim u [ ]
 large_finite _ (ge_fin m e g) u = tt
 
 same_turn : T (le turn turn)

@@ -3,12 +3,8 @@ use lib.Ieee.{of_bits}
 use Rattle.numbers.specs.F32.{decimal, minus_decimal}
 use mathlib.Core.Path.{refl}
 use Rattle.sine.specs.Table.{lut_sine}
-use Rattle.sine.proofs.lut_sine.Statement.{statement}
-use Rattle.sine.proofs.lut_sine.Tie as tie
+use Rattle.sine.proofs.lut_sine.Goals as goal
 
-returns : tie.Need-returns
+pub returns : goal.returns
 unfolding lut_sine decimal minus_decimal of_bits
 returns c = refl
-
-pub lut_sine_spec : {M : Type 1} → statement M
-lut_sine_spec = tie.close (tie.spec returns)

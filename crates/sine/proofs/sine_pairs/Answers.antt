@@ -4,12 +4,8 @@ use Rattle.numbers.specs.F32.{decimal, minus_decimal}
 use mathlib.Core.Path.{refl}
 use Rattle.sine.specs.Table.{lut_sine}
 use Rattle.sine.specs.Pairs.{pairs_of, sine_pairs}
-use Rattle.sine.proofs.sine_pairs.Statement.{statement}
-use Rattle.sine.proofs.sine_pairs.Tie as tie
+use Rattle.sine.proofs.sine_pairs.Goals as goal
 
-returns : tie.Need-returns
+pub returns : goal.returns
 unfolding sine_pairs pairs_of lut_sine decimal minus_decimal of_bits sub add sum neg
 returns c = refl
-
-pub sine_pairs_spec : {M : Type 1} → statement M
-sine_pairs_spec = tie.close (tie.spec returns)

@@ -3,12 +3,8 @@ use mathlib.Core.Path.{refl}
 use lib.Ieee.{of_bits, neg, div, round}
 use Rattle.numbers.specs.F32.{decimal, minus_decimal}
 use Rattle.sine.specs.Sine.{near_by}
-use Rattle.sine.proofs.is_near.Statement.{statement}
-use Rattle.sine.proofs.is_near.Tie as tie
+use Rattle.sine.proofs.is_near.Goals as goal
 
-returns : tie.Need-returns
+pub returns : goal.returns
 unfolding near_by decimal minus_decimal of_bits neg div round
 returns c = refl
-
-pub is_near_spec : {M : Type 1} → statement M
-is_near_spec = tie.close (tie.spec returns)
