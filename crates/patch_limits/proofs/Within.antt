@@ -12,7 +12,8 @@ use Rattle.patch.specs.Layout.{Field, later, Place, Of, envelope_field, scaling_
 use Rattle.patch.specs.Layout.{envelope_names, scaling_names, operator_names, lfo_names, letters, shared_names, layout}
 use Rattle.patch.specs.Layout.{patch_sensitivity}
 use Rattle.patch.specs.Form.{envelope_number, scaling_number, operator_number, lfo_number, operator_at, number_of}
-use Rattle.patch.specs.Packed.{within, stages_fit, scaling_fits, operator_fits, operators_fit, modulations_fit, name_fits}
+use Rattle.patch.specs.Packed.{within, stages_fit, scaling_fits, operator_fits, operators_fit, modulations_fit}
+use Rattle.patch.specs.Packed.{name_fits}
 use Rattle.patch.specs.Packed.{patch_fits}
 
 module _ {N : Type 0} (field : N → Field) (g : N → ℕ) where
@@ -53,7 +54,10 @@ module _ (p : Patch) where
   abbrev W : List Place → Bool
   W = within field_of (number_of p)
 
-  by_operators : W layout ≡ W (map (Of 0) operator_names) && (W (map (Of 1) operator_names) && (W (map (Of 2) operator_names) && (W (map (Of 3) operator_names) && (W (map (Of 4) operator_names) && (W (map (Of 5) operator_names) && W shared_names)))))
+  by_operators : W layout
+      ≡ W (map (Of 0) operator_names)
+      && (W (map (Of 1) operator_names) && (W (map (Of 2) operator_names) && (W (map (Of 3) operator_names)
+      && (W (map (Of 4) operator_names) && (W (map (Of 5) operator_names) && W shared_names)))))
   unfolding layout
   by_operators = simp (within_append field_of (number_of p))
 
@@ -61,12 +65,19 @@ module _ (p : Patch) where
   unfolding operator_fits within operator_names envelope_names scaling_names field_of later number_of operator_field
   operator_places k = refl
 
-  shared_places : W shared_names ≡ stages_fit p.pitch_envelope.rate && stages_fit p.pitch_envelope.level && leb p.algorithm 31 && leb p.feedback 7 && leb p.reset_phase 1 && modulations_fit p.modulations patch_sensitivity && leb p.transpose 48 && name_fits p.name
-  unfolding stages_fit modulations_fit name_fits within stages shared_names envelope_names lfo_names letters field_of later
-      number_of lfo_number envelope_field envelope_number
+  shared_places : W shared_names
+      ≡ stages_fit p.pitch_envelope.rate && stages_fit p.pitch_envelope.level && leb p.algorithm 31
+      && leb p.feedback 7 && leb p.reset_phase 1 && modulations_fit p.modulations patch_sensitivity
+      && leb p.transpose 48 && name_fits p.name
+  unfolding stages_fit modulations_fit name_fits within stages shared_names envelope_names lfo_names letters field_of
+      later number_of lfo_number envelope_field envelope_number
   shared_places = simp (and_assoc, and-true)
 
   -- a patch's limits, by its parts
-  pub patch_fits_lem : patch_fits p ≡ operators_fit p.op && stages_fit p.pitch_envelope.rate && stages_fit p.pitch_envelope.level && leb p.algorithm 31 && leb p.feedback 7 && leb p.reset_phase 1 && modulations_fit p.modulations patch_sensitivity && leb p.transpose 48 && name_fits p.name && eqb p.active_operators 63
+  pub patch_fits_lem : patch_fits p
+      ≡ operators_fit p.op && stages_fit p.pitch_envelope.rate && stages_fit p.pitch_envelope.level
+      && leb p.algorithm 31 && leb p.feedback 7 && leb p.reset_phase 1
+      && modulations_fit p.modulations patch_sensitivity && leb p.transpose 48 && name_fits p.name
+      && eqb p.active_operators 63
   unfolding patch_fits operators_fit
   patch_fits_lem = simp (by_operators, operator_places, shared_places, and_assoc)

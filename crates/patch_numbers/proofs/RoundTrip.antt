@@ -21,8 +21,8 @@ length_numbers p = refl
 
 -- the numbers of the patch of 155 numbers are these
 pub numbers_of_patch : (ns : List ℕ) → length ns ≡ 155 → numbers_of (patch_of ns) ≡ ns
-unfolding numbers_of patch_of firsts layout operator_names envelope_names scaling_names lfo_names letters shared_names position
-    operator_position envelope_position scaling_position lfo_position
+unfolding numbers_of patch_of firsts layout operator_names envelope_names scaling_names lfo_names letters shared_names
+    position operator_position envelope_position scaling_position lfo_position
 numbers_of_patch ns h = numbers_with (λ n. get_or ns (position n) 0) 63 ∙ listed 0 155 ns h
 
 -- the patch of a patch's numbers is that patch, if all its operators are active
@@ -46,8 +46,8 @@ module _ (p : Patch) where
   block_length k = refl
 
   by_operators : numbers_of p ≡ blocks operator_block 6 ++ shared_numbers p
-  unfolding numbers_of shared_numbers operator_numbers blocks layout operator_names envelope_names scaling_names lfo_names
-      letters shared_names number_of
+  unfolding numbers_of shared_numbers operator_numbers blocks layout operator_names envelope_names scaling_names
+      lfo_names letters shared_names number_of
   by_operators = refl
 
   -- 155 numbers at each step

@@ -3,12 +3,8 @@ use mathlib.Core.Bool.{and_assoc, and-true}
 use Rattle.patch.specs.Packed.{within, modulations_fit}
 use Rattle.patch.specs.Form.{lfo_number}
 use Rattle.patch.specs.Layout.{lfo_field, lfo_names}
-use Rattle.patch_limits.proofs.modulations_fit.Statement.{statement}
-use Rattle.patch_limits.proofs.modulations_fit.Tie as tie
+use Rattle.patch_limits.proofs.modulations_fit.Goals as goal
 
-returns : tie.Need-returns
+pub returns : goal.returns
 unfolding modulations_fit within lfo_names lfo_field lfo_number
 returns c = simp (and_assoc, and-true)
-
-pub modulations_fit_spec : {M : Type 1} → statement M
-modulations_fit_spec = tie.close (tie.spec returns)

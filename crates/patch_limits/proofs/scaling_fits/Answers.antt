@@ -3,12 +3,8 @@ use mathlib.Core.Bool.{and_assoc, and-true}
 use Rattle.patch.specs.Packed.{within, scaling_fits}
 use Rattle.patch.specs.Form.{scaling_number}
 use Rattle.patch.specs.Layout.{scaling_field, scaling_names}
-use Rattle.patch_limits.proofs.scaling_fits.Statement.{statement}
-use Rattle.patch_limits.proofs.scaling_fits.Tie as tie
+use Rattle.patch_limits.proofs.scaling_fits.Goals as goal
 
-returns : tie.Need-returns
+pub returns : goal.returns
 unfolding scaling_fits within scaling_names scaling_field scaling_number
 returns c = simp (and_assoc, and-true)
-
-pub scaling_fits_spec : {M : Type 1} → statement M
-scaling_fits_spec = tie.close (tie.spec returns)
