@@ -1,6 +1,7 @@
 -- How many operators a call takes: a chain's growth, the reuse rule, and the renderers that are known. To be believed.
 -- A list `os` here is the row from the call's first operator on.
-use Rattle.std.specs.Prelude.{ℕ, suc, ◌-◌, ◌≤◌, ◌<◌, ◌≡◌, Bool, false, cond, not, ◌&&◌, ◌||◌, List, [], ◌∷◌, eqb, ltb, length, get_or, take, drop}
+use Rattle.std.specs.Prelude.{ℕ, suc, ◌-◌, ◌≤◌, ◌<◌, ◌≡◌, Bool, false, cond, not, ◌&&◌, ◌||◌}
+use Rattle.std.specs.Prelude.{List, [], ◌∷◌, eqb, ltb, length, get_or, take, drop}
 use Rattle.algorithms.specs.Opcode.{destination, adding, source, flagged}
 
 -- the row from operator `first` on

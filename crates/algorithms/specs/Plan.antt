@@ -1,5 +1,6 @@
 -- A row's plan: its calls, and when the row is refused. To be believed, but for the last definition.
-use Rattle.std.specs.Prelude.{ℕ, zero, suc, ◌+◌, ◌-◌, Bool, true, false, cond, not, ◌&&◌, ◌||◌, List, [], ◌∷◌, eqb, get_or, take, set}
+use Rattle.std.specs.Prelude.{ℕ, zero, suc, ◌+◌, ◌-◌, Bool, true, false, cond, not, ◌&&◌, ◌||◌}
+use Rattle.std.specs.Prelude.{List, [], ◌∷◌, eqb, get_or, take, set}
 use Rattle.std.specs.Bool.{beq}
 use Rattle.algorithms.specs.Opcode.{destination, adding, source}
 use Rattle.algorithms.specs.Chain.{rendered}

@@ -1,5 +1,6 @@
 -- A lent table of rows, and the row that is asked for. To be believed.
-use Rattle.std.specs.Prelude.{ℕ, ◌*◌, ◌/◌, ◌%◌, Bool, false, cond, ◌&&◌, List, [], ◌∷◌, eqb, ltb, leb, length, get_or, take, drop}
+use Rattle.std.specs.Prelude.{ℕ, ◌*◌, ◌/◌, ◌%◌, Bool, false, cond, ◌&&◌, List, [], ◌∷◌, eqb, ltb}
+use Rattle.std.specs.Prelude.{leb, length, get_or, take, drop}
 use Rattle.algorithms.specs.Opcode.{modulating}
 use Rattle.algorithms.specs.Plan.{refusal, counted, planned}
 use Rattle.algorithms.specs.declared.Planned.{Planned}

@@ -43,7 +43,8 @@ pub returns-then-is_unready : goal.returns-then-is_unready
 returns-then-is_unready c =
     let w : Within c.args.operators c.loop-first.first c.args.row.now =
     record { whole = c.requires.0; most = c.requires.1; one = c.loop-first-test.true } in
-    let t = flags_test c.loop-first.flags _ _ _ _ _ _ c.is_unready.ensures c.call_of-c.ensures c.loop-first.invariant.shown in
+    let t =
+    flags_test c.loop-first.flags _ _ _ _ _ _ c.is_unready.ensures c.call_of-c.ensures c.loop-first.invariant.shown in
     c.refused-then-is_unready.ensures
     ∙ unready_at _ _ _ w (record { count = c.loop-first.count; calls = c.loop-first.calls }) _
     c.rendered_length-n.ensures _ c.call_of-c.ensures c.if-n-eq0.false _ t c.if-is_unready.true

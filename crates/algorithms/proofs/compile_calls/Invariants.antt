@@ -15,8 +15,8 @@ invariant-loop-first l = record {
   fewer : l.count ≤ l.first;
   past : l.first ≤ l.operators;
   shown : Flags l.flags l.calls l.count;
-  rest : plan_from l.operators 0 l.first (record { count = l.count; calls = l.calls }) (row_from l.operators l.first l.row)
-      ≡ plan_from l.operators 0 0 no_plan (take l.operators l.row);
+  rest : plan_from l.operators 0 l.first (record { count = l.count; calls = l.calls })
+      (row_from l.operators l.first l.row) ≡ plan_from l.operators 0 0 no_plan (take l.operators l.row);
 }
 
 abbrev pub decreases-loop-first : goal.decreases-loop-first

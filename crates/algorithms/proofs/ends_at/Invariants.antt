@@ -8,7 +8,8 @@ use Rattle.algorithms.proofs.ends_at.Given as goal
 abbrev pub invariant-loop-i : goal.invariant-loop-i
 invariant-loop-i l =
     (l.k ≤ l.i) × (l.i ≤ 6)
-    × (same_calls (drop l.i l.plan.calls) (drop l.i (first_calls l.k l.plan).calls) ≡ same_plan l.plan (first_calls l.k l.plan))
+    × (same_calls (drop l.i l.plan.calls) (drop l.i (first_calls l.k l.plan).calls)
+    ≡ same_plan l.plan (first_calls l.k l.plan))
 
 abbrev pub decreases-loop-i : goal.decreases-loop-i
 decreases-loop-i l = 6 - l.i

@@ -53,7 +53,8 @@ pub returns-then-is_unready : goal.returns-then-is_unready
 returns-then-is_unready c =
     let w : Within c.args.operators c.loop-first.first c.args.row =
     record { whole = search rules; most = c.loop-first.invariant.most; one = c.loop-first-test.true } in
-    let t = flags_test c.loop-first.ready _ _ _ _ _ _ c.is_unready.ensures c.call_of-c.ensures c.loop-first.invariant.shown in
+    let t =
+    flags_test c.loop-first.ready _ _ _ _ _ _ c.is_unready.ensures c.call_of-c.ensures c.loop-first.invariant.shown in
     no_plan_of _ _ _ 4 _ refl
     (unready_at _ _ _ w (first_calls c.loop-first.k c.args.plan) _ c.rendered_length-n.ensures _ c.call_of-c.ensures
     c.if-n-eq0.false _ t c.if-is_unready.true ∙ c.loop-first.invariant.rest)
@@ -62,7 +63,8 @@ pub returns-then-not-same_call : goal.returns-then-not-same_call
 returns-then-not-same_call c =
     let w : Within c.args.operators c.loop-first.first c.args.row =
     record { whole = search rules; most = c.loop-first.invariant.most; one = c.loop-first-test.true } in
-    let t = flags_test c.loop-first.ready _ _ _ _ _ _ c.is_unready.ensures c.call_of-c.ensures c.loop-first.invariant.shown in
+    let t =
+    flags_test c.loop-first.ready _ _ _ _ _ _ c.is_unready.ensures c.call_of-c.ensures c.loop-first.invariant.shown in
     other_call _ _ _ _ _ _ _ (omega arith)
     (step_at _ _ _ w (first_calls c.loop-first.k c.args.plan) _ c.rendered_length-n.ensures _ c.call_of-c.ensures
     c.if-n-eq0.false _ t c.if-is_unready.false ∙ c.loop-first.invariant.rest)
