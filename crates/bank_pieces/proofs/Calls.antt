@@ -2,14 +2,13 @@
 use mathlib.Core.Path.{◌≡◌, refl, sym, ◌∙◌, ap}
 use mathlib.Core.Bool.{Bool, true, false, cond, ◌&&◌, and-false}
 use mathlib.Core.List.{List, [], ◌∷◌, ◌++◌, append-nil}
-use Prim.Native.Nat.{ℕ, zero, suc, ◌+◌, ◌-◌, ◌%◌, ◌<◌, ◌≤◌, min}
+use Prim.Native.Nat.{ℕ, zero, suc, ◌+◌, ◌-◌, ◌<◌, ◌≤◌, min}
 use native.Mathlib.Omega.{arith}
-use borrow.Author.Tests.{leb-true, leb-false, eq-eqb, ne_eqb, le-leb, lt-leb, lt-ltb, le-ltb}
-use lib.Dec.{eqb, leb, ltb}
+use borrow.Author.Tests.{leb-true, leb-false, ne_eqb, le-leb, lt-leb, lt-ltb, le-ltb}
+use lib.Dec.{leb, ltb}
 use lib.ListN.{length, take, drop, length-drop, take-append-drop, drop_of_length-le}
 use lib.Seq.{paste, take-add, take-take, take-length, length-take-le}
 use Rattle.bank_pieces.specs.declared.Receiver.{Receiver}
-use Rattle.bank_pieces.specs.declared.Taken.{Taken}
 use Rattle.bank_pieces.specs.Pieces.{Held, Took, passed, passed_all, place_in, slot_at, came_all, summed_with}
 use Rattle.bank_pieces.specs.Pieces.{missing, completes, takes, took, frame_with, is_right}
 use Rattle.bank_pieces.proofs.Bytes.{came_append, passed_append, came_first, came_rest, held, stored_some}

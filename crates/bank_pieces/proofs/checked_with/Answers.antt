@@ -3,12 +3,10 @@ use mathlib.Core.Path.{◌≡◌, refl, sym}
 use mathlib.Core.Bool.{Bool, true, false, cond}
 use Prim.Native.Nat.{ℕ, ◌+◌, ◌*◌, ◌/◌, ◌%◌, ◌<◌, ◌≤◌}
 use native.Mathlib.Omega.{arith}
-use borrow.Author.Rules.{rules}
 use borrow.Author.Tests.{le-leb, lt-leb, leb-true, leb-false}
 use lib.Dec.{leb}
 use Rattle.bank_pieces.specs.Pieces.{checked_with}
-use Rattle.bank_pieces.proofs.checked_with.Statement.{statement}
-use Rattle.bank_pieces.proofs.checked_with.Tie as tie
+use Rattle.bank_pieces.proofs.checked_with.Goals as goal
 
 -- the mark of a byte above 127, as the code has it
 high_is : (sum : ℕ) → sum < 256 → sum / 128 * 128 ≡ cond (leb sum 127) 0 128
@@ -26,24 +24,8 @@ summing : (sum c : ℕ) → sum < 256 → c ≤ 127 → sum / 128 * 128 + (sum %
 unfolding checked_with
 summing sum c s h = rw (sym (high_is sum s), le-leb c 127 h) (omega arith)
 
-mul-high : tie.Need-overflow-mul-high
-mul-high c = search rules
+pub returns-then-c-gt127 : goal.returns-then-c-gt127
+returns-then-c-gt127 c = too_high c.args.sum c.args.c (omega arith) c.if-c-gt127.true
 
-add-result : tie.Need-overflow-add-result
-add-result c = search rules
-
-returns : tie.Need-returns
-returns c = too_high c.before.args.sum c.before.args.c (omega arith) c.if1.true
-
-add-result-2 : tie.Need-overflow-add-result-2
-add-result-2 c = search rules
-
-add-result-3 : tie.Need-overflow-add-result-3
-add-result-3 c = search rules
-
-returns-2 : tie.Need-returns-2
-returns-2 c = summing c.before.args.sum c.before.args.c (omega arith) c.if1.false
-
-pub checked_with_spec : {M : Type 1} → statement M
-checked_with_spec =
-    tie.close (tie.spec mul-high add-result returns add-result-2 add-result-3 returns-2)
+pub returns : goal.returns
+returns c = summing c.args.sum c.args.c (omega arith) c.if-c-gt127.false
