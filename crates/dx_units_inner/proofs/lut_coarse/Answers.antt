@@ -3,12 +3,8 @@ use mathlib.Core.Path.{refl}
 use lib.Ieee.{of_bits}
 use Rattle.numbers.specs.F32.{decimal, minus_decimal}
 use Rattle.dx_units_inner.specs.Tables.{lut_coarse}
-use Rattle.dx_units_inner.proofs.lut_coarse.Statement.{statement}
-use Rattle.dx_units_inner.proofs.lut_coarse.Tie as tie
+use Rattle.dx_units_inner.proofs.lut_coarse.Goals as goal
 
-returns : tie.Need-returns
+pub returns : goal.returns
 unfolding lut_coarse decimal minus_decimal of_bits
 returns c = refl
-
-pub lut_coarse_spec : {M : Type 1} → statement M
-lut_coarse_spec = tie.close (tie.spec returns)

@@ -1,0 +1,11 @@
+-- `dx_units_inner::coarse_semitones` meets its contract. Assumes nothing.
+use mathlib.Core.Path.{refl}
+use lib.Ieee.{of_bits}
+use Rattle.numbers.specs.F32.{decimal, minus_decimal}
+use Rattle.dx_units_inner.specs.Tables.{lut_coarse}
+use Rattle.dx_units_inner.specs.Units.{coarse_semitones}
+use Rattle.dx_units_inner.proofs.coarse_semitones.Goals as goal
+
+pub returns : goal.returns
+unfolding coarse_semitones lut_coarse decimal minus_decimal of_bits
+returns c = refl
