@@ -4,12 +4,8 @@ use mathlib.Core.Path.{refl}
 use lib.Ieee.{of_bits}
 use Rattle.numbers.specs.F32.{decimal}
 use Rattle.operator.specs.Sample.{still}
-use Rattle.operator.proofs.Operator.reset.Statement.{statement}
-use Rattle.operator.proofs.Operator.reset.Tie as tie
+use Rattle.operator.proofs.Operator.reset.Goals as goal
 
-returns : tie.Need-returns
+pub returns : goal.returns
 unfolding still decimal of_bits
 returns c = refl
-
-pub reset_spec : {M : Type 1} → statement M
-reset_spec = tie.close (tie.spec returns)

@@ -1,0 +1,28 @@
+-- `operator::render_none` meets its contract: a turn of its loop is a sample of the definition.
+-- Assumes nothing.
+use mathlib.Core.Path.{refl}
+use lib.ListN.{length-set}
+use lib.Ieee.{of_bits}
+use native.Mathlib.Omega.{arith}
+use Rattle.numbers.specs.F32.{decimal}
+use Rattle.operator.specs.Chain.{entered, kept, through, all_moved}
+use Rattle.operator.proofs.Loop.{going_first, turn_parts, going_done}
+use Rattle.operator.proofs.render_none.Goals as goal
+
+pub loop-i-init : goal.loop-i-init
+loop-i-init c = going_first
+
+pub loop-i-smaller : goal.loop-i-smaller
+loop-i-smaller c = simp length-set (omega arith)
+
+pub loop-i-preserved : goal.loop-i-preserved
+unfolding entered kept through all_moved decimal of_bits
+loop-i-preserved c =
+    turn_parts c.loop-i.invariant c.loop-i-test.true c.sample-pm.ensures
+    (rw c.advance-first.ensures) refl c.mix.ensures
+
+pub shape_of-out : goal.shape_of-out
+shape_of-out c = c.loop-i.invariant.size
+
+pub returns : goal.returns
+returns c = going_done c.loop-i.invariant c.loop-i-test.false
