@@ -150,8 +150,8 @@ join e f = rw (e, f)
 pub by_blocks : (p : Patch)
     → packed p
     ≡ operator_bytes (operator_at p.op 0) ++ (operator_bytes (operator_at p.op 1) ++ (operator_bytes (operator_at p.op 2) ++ (operator_bytes (operator_at p.op 3) ++ (operator_bytes (operator_at p.op 4) ++ (operator_bytes (operator_at p.op 5) ++ shared_bytes p)))))
-unfolding packed shared_bytes layout every operator_names envelope_names scaling_names lfo_names letters shared_names field_of
-    later operator_field envelope_field scaling_field lfo_field
+unfolding packed shared_bytes layout every operator_names envelope_names scaling_names lfo_names letters shared_names
+    field_of later operator_field envelope_field scaling_field lfo_field
 by_blocks p =
     bytes_append field_of (number_of p) 17 (map (Of 0) operator_names) _ refl refl 17 111 0 refl
     ∙ join (block p 0) (bytes_append field_of (number_of p) 34 (map (Of 1) operator_names) _ refl refl 17 94 17 refl

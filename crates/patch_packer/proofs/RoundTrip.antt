@@ -26,18 +26,18 @@ use Rattle.patch_packer.proofs.Tables.{read_back}
 
 -- what the table has to be: fields stacked in their bytes, within 128 bytes, their largest numbers within their widths
 table_stacked : stacked field_of layout ≡ true
-unfolding stacked above every layout operator_names envelope_names scaling_names lfo_names letters shared_names field_of later
-    operator_field envelope_field scaling_field lfo_field
+unfolding stacked above every layout operator_names envelope_names scaling_names lfo_names letters shared_names field_of
+    later operator_field envelope_field scaling_field lfo_field
 table_stacked = refl
 
 table_bytes : every (λ n. ltb (field_of n).byte 128) layout ≡ true
-unfolding every layout operator_names envelope_names scaling_names lfo_names letters shared_names field_of later operator_field
-    envelope_field scaling_field lfo_field
+unfolding every layout operator_names envelope_names scaling_names lfo_names letters shared_names field_of later
+    operator_field envelope_field scaling_field lfo_field
 table_bytes = refl
 
 table_largest : every (λ n. ltb (field_of n).largest (2 ^ (field_of n).width)) layout ≡ true
-unfolding every layout operator_names envelope_names scaling_names lfo_names letters shared_names field_of later operator_field
-    envelope_field scaling_field lfo_field
+unfolding every layout operator_names envelope_names scaling_names lfo_names letters shared_names field_of later
+    operator_field envelope_field scaling_field lfo_field
 table_largest = refl
 
 -- the packed byte k

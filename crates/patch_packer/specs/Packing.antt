@@ -1,6 +1,7 @@
 -- What packing means, for any table, and the packer over the patch's. To be believed, but for the bytes in two parts;
 -- the entry's contract cites these.
-use Rattle.std.specs.Prelude.{◌≡◌, true, cond, List, [], ◌∷◌, ℕ, zero, suc, ◌+◌, ◌*◌, ◌%◌, ◌^◌, ◌<◌, get_or, replicate, eqb}
+use Rattle.std.specs.Prelude.{◌≡◌, true, cond, List, [], ◌∷◌, ℕ, zero, suc, ◌+◌, ◌*◌, ◌%◌, ◌^◌, ◌<◌, get_or, replicate}
+use Rattle.std.specs.Prelude.{eqb}
 use Rattle.patch.specs.declared.Operator.{Operator}
 use Rattle.patch.specs.declared.Patch.{Patch}
 use Rattle.patch_packer.specs.declared.Packed.{Packed}
