@@ -10,13 +10,13 @@ pub float_to_float-result : goal.float_to_float-result
 unfolding of_bits
 float_to_float-result c =
     let x = c.args.x in
-    widens x c.row_known-1.given (at_least_no_nan 23 x (at_least 23 x c.if-x.true))
+    widens x c.type_inv.x (at_least_no_nan 23 x (at_least 23 x c.if-x.true))
 
 pub float_to_int-result : goal.float_to_int-result
 unfolding of_bits
 float_to_int-result c =
     let x = c.args.x in
-    fast_in x c.row_known-1.given (at_least 23 x c.if-x.true)
+    fast_in x (subst T (sym c.well_formed.0.1) tt) (at_least 23 x c.if-x.true)
     (under 32 x c.if-x-2.true)
 
 pub returns-then-x : goal.returns-then-x
