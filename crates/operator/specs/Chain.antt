@@ -33,13 +33,13 @@ three s = record { lanes = s.first ∷ s.second ∷ s.third ∷ []; feedback = s
 unfoldable pub entered : Source → ℕ → Feedback → Float
 entered none i f = decimal 0 0
 entered (external modulation) i f = get_or modulation i nan
-entered (feedback feedback_scale_lem) i f = fed f feedback_scale_lem
+entered (feedback feedback_scale) i f = fed f feedback_scale
 
 -- the feedback after a sample of the chain
 unfoldable pub kept : Source → Feedback → Float → Feedback
 kept none f pm = f
 kept (external modulation) f pm = f
-kept (feedback feedback_scale_lem) f pm = pushed f pm
+kept (feedback feedback_scale) f pm = pushed f pm
 
 -- each operator's sample modulates the next
 unfoldable pub through : List Float → List Lane → Float → Float

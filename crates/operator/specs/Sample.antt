@@ -52,7 +52,7 @@ moved l = record {
 
 -- the modulation that feedback gives: the origin's last two samples
 unfoldable pub fed : Feedback → Float → Float
-fed f feedback_scale_lem = (f.previous_0 ⊕ f.previous_1) ⊗ feedback_scale_lem
+fed f feedback_scale = (f.previous_0 ⊕ f.previous_1) ⊗ feedback_scale
 
 -- the feedback after a sample of its origin
 unfoldable pub pushed : Feedback → Float → Feedback
