@@ -101,7 +101,8 @@ module _ (r : Receiver) (piece patch : List ℕ) where
   unfolding missing
   took_frame l q e =
       rw e
-      (took_all (record { receiver = passed_all r piece; patch = patch }) (few (omega arith)) (came_first start piece l))
+      (took_all (record { receiver = passed_all r piece; patch = patch }) (few (omega arith))
+      (came_first start piece l))
 
 -- BYTES OF THE FRAME, then others: what is left of the piece is taken as a piece of its own
 abbrev pub onward : ℕ → Took → Took

@@ -1,7 +1,8 @@
 -- A bank that comes in pieces: what each byte does, what a call takes and reports, and what the end says. A byte has a
 -- place, which is how many came before it: six bytes of the frame, 4,096 of data, the checksum, the last byte, and what
 -- is too much. Definitions only, all to be believed.
-use Rattle.std.specs.Prelude.{Bool, true, false, cond, ◌&&◌, ◌||◌, not, List, [], ◌∷◌, ℕ, ◌+◌, ◌-◌, ◌/◌, ◌%◌, min, length, get_or, take, set, eqb, leb, ltb}
+use Rattle.std.specs.Prelude.{Bool, true, false, cond, ◌&&◌, ◌||◌, not, List, [], ◌∷◌, ℕ, ◌+◌, ◌-◌, ◌/◌, ◌%◌}
+use Rattle.std.specs.Prelude.{min, length, get_or, take, set, eqb, leb, ltb}
 use Rattle.dump.specs.Dump.{in_row, total, largest_of}
 use Rattle.bank.specs.Bank.{bank_form}
 use Rattle.bank_pieces.specs.declared.Receiver.{Receiver}

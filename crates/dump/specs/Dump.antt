@@ -1,7 +1,8 @@
 -- A dump of any form: its frame, its channel, its data, its checksum and the number it gets. A form has a row for each
 -- byte before the data, a number of data bytes, and a row for the last byte; the checksum stands between the data and
 -- the last byte. Definitions only, all to be believed.
-use Rattle.std.specs.Prelude.{Bool, true, cond, ◌&&◌, List, [], ◌∷◌, ℕ, suc, ◌+◌, ◌-◌, ◌/◌, ◌%◌, max, length, get_or, take, drop, set, eqb, leb, ltb}
+use Rattle.std.specs.Prelude.{Bool, true, cond, ◌&&◌, List, [], ◌∷◌, ℕ, suc, ◌+◌, ◌-◌, ◌/◌, ◌%◌, max}
+use Rattle.std.specs.Prelude.{length, get_or, take, drop, set, eqb, leb, ltb}
 use Rattle.dump.specs.declared.Row.{Row}
 use Rattle.dump.specs.declared.Form.{Form}
 use Rattle.dump.specs.declared.Opened.{Opened}

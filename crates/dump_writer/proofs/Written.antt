@@ -118,7 +118,8 @@ two_last : (l : List ℕ) (n : ℕ) → length l ≡ n + 2 → drop n l ≡ get_
 two_last l n e =
     drop-cons l n 0 (omega arith)
     ∙ ap (λ (m : List ℕ). get_or l n 0 ∷ m) (drop-cons l (suc n) 0 (omega arith)
-    ∙ ap₂ (λ (k : ℕ) (m : List ℕ). get_or l k 0 ∷ m) (omega arith) (drop_of_length-le l {i = suc (suc n)} (omega arith)))
+    ∙ ap₂ (λ (k : ℕ) (m : List ℕ). get_or l k 0 ∷ m) (omega arith)
+    (drop_of_length-le l {i = suc (suc n)} (omega arith)))
 
 module _ (format count : ℕ) (dump : List ℕ) (zero_is : dump_number (yamaha_form format count) dump ≡ 0) where
   abbrev form : Form

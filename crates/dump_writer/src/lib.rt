@@ -1,5 +1,5 @@
-// The writer of dumps, of every form: the frame and the checksum around some data. Added by us: no Rust file. Helpers: a
-// caller has data and a buffer of the form's lengths; what they answer is in specs/Written.
+// The writer of dumps, of every form: the frame and the checksum around some data. Added by us: no Rust file. Helpers:
+// a caller has data and a buffer of the form's lengths; what they answer is in specs/Written.
 #![tactic(auto)]
 
 ghost use Rattle.std.specs.Prelude.{◌≡◌, ◌+◌, length};

@@ -110,4 +110,5 @@ module _ (dump : List ℕ) (long : length dump ≡ 4104) where
   -- and then the channel
   pub frame_channel : framed bank_form dump ≡ true → frame_from 0 0 dump ≡ channel_byte dump
   unfolding channel_byte
-  frame_channel h = frame_is ∙ third_kept (row 0) (row 1) (get_or dump 2 0) (row 3) (row 4) (row 5) last (left_right ∙ h)
+  frame_channel h =
+      frame_is ∙ third_kept (row 0) (row 1) (get_or dump 2 0) (row 3) (row 4) (row 5) last (left_right ∙ h)

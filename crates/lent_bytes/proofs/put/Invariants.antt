@@ -7,7 +7,8 @@ use lib.Seq.{paste}
 use Rattle.lent_bytes.proofs.put.Given as goal
 
 abbrev pub invariant-loop-i : goal.invariant-loop-i
-invariant-loop-i l = (l.out ≡ paste l.initial.out l.at l.b l.i) × (l.i ≤ length l.b) × (length l.out ≡ length l.initial.out)
+invariant-loop-i l =
+    (l.out ≡ paste l.initial.out l.at l.b l.i) × (l.i ≤ length l.b) × (length l.out ≡ length l.initial.out)
 
 abbrev pub decreases-loop-i : goal.decreases-loop-i
 decreases-loop-i l = length l.b - l.i
