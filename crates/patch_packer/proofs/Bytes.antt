@@ -30,7 +30,8 @@ module _ (p : Patch) (fits : patch_fits p ≡ true) where
       (and-eq-true_iff (within field_of (number_of p) xs) (within field_of (number_of p) ys)).0
       (sym (within_append field_of (number_of p) xs ys) ∙ e)
 
-  by_parts : W (map (Of 0) operator_names) × W (map (Of 1) operator_names) × W (map (Of 2) operator_names) × W (map (Of 3) operator_names) × W (map (Of 4) operator_names) × W (map (Of 5) operator_names) × W shared_names
+  by_parts : W (map (Of 0) operator_names) × W (map (Of 1) operator_names) × W (map (Of 2) operator_names)
+      × W (map (Of 3) operator_names) × W (map (Of 4) operator_names) × W (map (Of 5) operator_names) × W shared_names
   unfolding patch_fits layout
   by_parts =
       let all = (and-eq-true_iff (within field_of (number_of p) layout) (eqb p.active_operators 63)).0 fits in
@@ -56,7 +57,8 @@ module _ (p : Patch) (fits : patch_fits p ≡ true) where
   operator_fits_lem (suc (suc (suc (suc (suc (suc k)))))) h = let z : ⊥ = omega arith in absurd z
 
   -- the limits of the numbers that share a byte
-  pub shared_low : (p.feedback ≤ 7) × (p.reset_phase ≤ 1) × (p.modulations.reset_phase ≤ 1) × (p.modulations.waveform ≤ 5) × (p.modulations.pitch_mod_sensitivity ≤ 15)
+  pub shared_low : (p.feedback ≤ 7) × (p.reset_phase ≤ 1) × (p.modulations.reset_phase ≤ 1)
+      × (p.modulations.waveform ≤ 5) × (p.modulations.pitch_mod_sensitivity ≤ 15)
   unfolding shared_names envelope_names lfo_names letters field_of lfo_field number_of lfo_number
   shared_low =
       let f = (each_within field_of (number_of p) shared_names by_parts.6).1.1.1.1.1.1.1.1.1 in
@@ -101,7 +103,8 @@ module _ (p : Patch) (fits : patch_fits p ≡ true) where
 -- an operator that fits
 module _ (o : Operator) (fits : operator_fits o ≡ true) where
   -- the limits of the numbers that share a byte
-  pub operator_low : (o.keyboard_scaling.left_curve ≤ 3) × (o.keyboard_scaling.right_curve ≤ 3) × (o.rate_scaling ≤ 7) × (o.detune ≤ 14) × (o.amp_mod_sensitivity ≤ 3) × (o.velocity_sensitivity ≤ 7) × (o.mode ≤ 1) × (o.coarse ≤ 31)
+  pub operator_low : (o.keyboard_scaling.left_curve ≤ 3) × (o.keyboard_scaling.right_curve ≤ 3) × (o.rate_scaling ≤ 7)
+      × (o.detune ≤ 14) × (o.amp_mod_sensitivity ≤ 3) × (o.velocity_sensitivity ≤ 7) × (o.mode ≤ 1) × (o.coarse ≤ 31)
   unfolding operator_fits operator_names envelope_names scaling_names operator_field scaling_field operator_number
       scaling_number
   operator_low =
@@ -133,7 +136,8 @@ module _ (o : Operator) (fits : operator_fits o ≡ true) where
       ∷ []
   unfolding operator_bytes operator_fits sums_of sum_of every operator_names envelope_names scaling_names operator_field
       envelope_field scaling_field operator_number envelope_number scaling_number
-  operator_bytes_lem = whole_bytes operator_field (operator_number o) operator_names fits refl 0 17 ∙ simp (mul-one, add-zero)
+  operator_bytes_lem =
+      whole_bytes operator_field (operator_number o) operator_names fits refl 0 17 ∙ simp (mul-one, add-zero)
 
 -- operator k's bytes in the patch are the operator's own
 block : (p : Patch) (k : ℕ)
@@ -149,7 +153,13 @@ join e f = rw (e, f)
 -- the packed patch: the operators' bytes, and those behind them
 pub by_blocks : (p : Patch)
     → packed p
-    ≡ operator_bytes (operator_at p.op 0) ++ (operator_bytes (operator_at p.op 1) ++ (operator_bytes (operator_at p.op 2) ++ (operator_bytes (operator_at p.op 3) ++ (operator_bytes (operator_at p.op 4) ++ (operator_bytes (operator_at p.op 5) ++ shared_bytes p)))))
+    ≡ operator_bytes (operator_at p.op 0)
+    ++ (operator_bytes (operator_at p.op 1)
+    ++ (operator_bytes (operator_at p.op 2)
+    ++ (operator_bytes (operator_at p.op 3)
+    ++ (operator_bytes (operator_at p.op 4)
+    ++ (operator_bytes (operator_at p.op 5)
+    ++ shared_bytes p)))))
 unfolding packed shared_bytes layout every operator_names envelope_names scaling_names lfo_names letters shared_names
     field_of later operator_field envelope_field scaling_field lfo_field
 by_blocks p =
@@ -161,9 +171,20 @@ by_blocks p =
     ∙ join (block p 4) (bytes_append field_of (number_of p) 102 (map (Of 5) operator_names) _ refl refl 17 26 85 refl
     ∙ join (block p 5) refl)))))
 
+-- operator k's bytes
+abbrev own_bytes : Patch → ℕ → List ℕ
+own_bytes p k = operator_bytes (operator_at p.op k)
+
+-- the operators' bytes pasted into zeros, from the first to the fifth
+abbrev five : Patch → List ℕ
+five p =
+    paste (paste (paste (paste (paste (replicate 128 0) 0 (own_bytes p 0) 17) 17 (own_bytes p 1) 17) 34 (own_bytes p 2)
+    17) 51 (own_bytes p 3) 17) 68 (own_bytes p 4) 17
+
 whole : (p : Patch)
-    → paste (paste (paste (paste (paste (paste (paste (replicate 128 0) 0 (operator_bytes (operator_at p.op 0)) 17) 17 (operator_bytes (operator_at p.op 1)) 17) 34 (operator_bytes (operator_at p.op 2)) 17) 51 (operator_bytes (operator_at p.op 3)) 17) 68 (operator_bytes (operator_at p.op 4)) 17) 85 (operator_bytes (operator_at p.op 5)) 17) 102 (shared_bytes p) 26
-    ≡ operator_bytes (operator_at p.op 0) ++ (operator_bytes (operator_at p.op 1) ++ (operator_bytes (operator_at p.op 2) ++ (operator_bytes (operator_at p.op 3) ++ (operator_bytes (operator_at p.op 4) ++ (operator_bytes (operator_at p.op 5) ++ shared_bytes p)))))
+    → paste (paste (five p) 85 (own_bytes p 5) 17) 102 (shared_bytes p) 26
+    ≡ own_bytes p 0 ++ (own_bytes p 1 ++ (own_bytes p 2 ++ (own_bytes p 3 ++ (own_bytes p 4 ++ (own_bytes p 5
+    ++ shared_bytes p)))))
 unfolding operator_bytes shared_bytes bytes_of
 whole p = refl
 

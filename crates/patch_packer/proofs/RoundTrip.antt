@@ -60,7 +60,8 @@ module _ (p : Patch) (low : Each (λ n. number_of p n ≤ (field_of n).largest) 
   packed_bits : Each (λ n. bits_in (packed p) (field_of n) ≡ number_of p n) layout
   packed_bits =
       both_each one layout
-      (both_each (λ n a b. (a, b)) layout (each (λ n. ltb (field_of n).byte 128) layout table_bytes) (each (λ n. ltb (field_of n).largest (2 ^ (field_of n).width)) layout table_largest))
+      (both_each (λ n a b. (a, b)) layout (each (λ n. ltb (field_of n).byte 128) layout table_bytes)
+      (each (λ n. ltb (field_of n).largest (2 ^ (field_of n).width)) layout table_largest))
       (both_each (λ n a b. (a, b)) layout (read_back field_of (number_of p) layout table_stacked) low)
 
   packed_numbers : Each (λ n. read_in (packed p) (field_of n) ≡ number_of p n) layout
@@ -72,7 +73,9 @@ pub unpacked_of_packed : (p : Patch) → Shaped p → patch_fits p ≡ true → 
 unfolding unpacked patch_fits
 unpacked_of_packed p h e =
     let b = (and-eq-true_iff (within field_of (number_of p) layout) (eqb p.active_operators 63)).0 e in
-    patch_with_lem (λ n. read_in (packed p) (field_of n)) (number_of p) 63 (map_each (λ n. read_in (packed p) (field_of n)) (number_of p) layout (packed_numbers p (each_within field_of (number_of p) layout b.0)))
+    patch_with_lem (λ n. read_in (packed p) (field_of n)) (number_of p) 63
+    (map_each (λ n. read_in (packed p) (field_of n)) (number_of p) layout
+    (packed_numbers p (each_within field_of (number_of p) layout b.0)))
     ∙ ap (patch_with (number_of p)) (sym (eqb-true p.active_operators 63 b.1))
     ∙ patch_numbers p h
 
@@ -97,7 +100,8 @@ module _ (s : List ℕ) where
       ext_get_or 0 (packed (unpacked s)) (take 128 s) (length_packed (unpacked s) ∙ sym (length-take-le 128 s h))
       (λ k b. at k (rw (length_packed (unpacked s)) at b))
     where
-      low : (n : Place) → number_of (unpacked s) n ≡ read_in s (field_of n) → bits_in s (field_of n) ≤ (field_of n).largest
+      low : (n : Place) → number_of (unpacked s) n ≡ read_in s (field_of n)
+          → bits_in s (field_of n) ≤ (field_of n).largest
           → number_of (unpacked s) n ≡ bits_in s (field_of n)
       low n e l = e ∙ omega arith
 
@@ -116,7 +120,8 @@ module _ (s : List ℕ) where
   unfolding bits_in
   clean_of_packed e = record {
     clamped = within_each field_of (λ n. bits_in s (field_of n)) layout (both_each low layout bits (numbers_low s));
-    unused = λ k b. byte k b ∙ packed_byte (unpacked s) k b ∙ sym (same_byte field_of (λ n. bits_in s (field_of n)) (number_of (unpacked s)) layout k bits);
+    unused = λ k b. byte k b ∙ packed_byte (unpacked s) k b
+        ∙ sym (same_byte field_of (λ n. bits_in s (field_of n)) (number_of (unpacked s)) layout k bits);
   }
     where
       byte : (k : ℕ) → k < 128 → get_or s k 0 ≡ get_or (packed (unpacked s)) k 0
@@ -134,7 +139,8 @@ module _ (s : List ℕ) where
           both_each there layout (each (λ n. ltb (field_of n).byte 128) layout table_bytes)
           (packed_bits (unpacked s) (numbers_low s))
 
-      low : (n : Place) → bits_in s (field_of n) ≡ number_of (unpacked s) n → number_of (unpacked s) n ≤ (field_of n).largest
+      low : (n : Place) → bits_in s (field_of n) ≡ number_of (unpacked s) n
+          → number_of (unpacked s) n ≤ (field_of n).largest
           → bits_in s (field_of n) ≤ (field_of n).largest
       low n q l = omega arith
 

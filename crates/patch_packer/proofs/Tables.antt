@@ -57,7 +57,8 @@ module _ {N : Type 0} (field : N → Field) (g : N → ℕ) where
       at true q p r = let z : true ≡ false = sym p ∙ ap t (eqb-true (field n).byte k q) ∙ e in absurd (true≢false z)
       at false q p r = r
 
-  module _ (m : ℕ) (xs ys : List N) (low : every (λ n. ltb (field n).byte m) xs ≡ true) (high : every (λ n. leb m (field n).byte) ys ≡ true) where
+  module _ (m : ℕ) (xs ys : List N) (low : every (λ n. ltb (field n).byte m) xs ≡ true)
+      (high : every (λ n. leb m (field n).byte) ys ≡ true) where
     left_byte : (k : ℕ) → k < m → byte_of field g (xs ++ ys) k ≡ byte_of field g xs k
     left_byte k h =
         byte_append xs ys k ∙ ap (λ (x : ℕ). byte_of field g xs k + x)
@@ -65,7 +66,8 @@ module _ {N : Type 0} (field : N → Field) (g : N → ℕ) where
 
     right_byte : (k : ℕ) → m ≤ k → byte_of field g (xs ++ ys) k ≡ byte_of field g ys k
     right_byte k h =
-        byte_append xs ys k ∙ ap (λ (x : ℕ). x + byte_of field g ys k) (byte_none (λ b. ltb b m) k (le-ltb k m h) xs low)
+        byte_append xs ys k ∙ ap (λ (x : ℕ). x + byte_of field g ys k)
+        (byte_none (λ b. ltb b m) k (le-ltb k m h) xs low)
         ∙ zero-add (byte_of field g ys k)
 
     right_bytes : (count k : ℕ) → m ≤ k → bytes_of field g (xs ++ ys) k count ≡ bytes_of field g ys k count
@@ -100,13 +102,15 @@ module _ {N : Type 0} (field : N → Field) (g : N → ℕ) where
   sums_of ns k zero = []
   sums_of ns k (suc count) = sum_of ns k ∷ sums_of ns (suc k) count
 
-  whole_byte : (ns : List N) (k : ℕ) → Each (λ n. g n % 2 ^ (field n).width ≡ g n) ns → byte_of field g ns k ≡ sum_of ns k
+  whole_byte : (ns : List N) (k : ℕ) → Each (λ n. g n % 2 ^ (field n).width ≡ g n) ns → byte_of field g ns k
+      ≡ sum_of ns k
   unfolding byte_of placed sum_of
   whole_byte [] k es = refl
   whole_byte (n ∷ ns) k (e, es) = rw (e, whole_byte ns k es)
 
   -- numbers that fit need no cutting
-  module _ (ns : List N) (fits : within field g ns ≡ true) (wide : every (λ n. ltb (field n).largest (2 ^ (field n).width)) ns ≡ true) where
+  module _ (ns : List N) (fits : within field g ns ≡ true)
+      (wide : every (λ n. ltb (field n).largest (2 ^ (field n).width)) ns ≡ true) where
     whole_numbers : Each (λ n. g n % 2 ^ (field n).width ≡ g n) ns
     whole_numbers =
         both_each (λ n t h. fits_width (g n) (field n) t h) ns
@@ -132,7 +136,8 @@ eqb_add base a b = at (eqb a b) refl
     at false q = ne_eqb (base + a) (base + b) (λ e. eqb-false a b q (omega arith))
 
 -- fields under other names, some bytes later, give the same bytes there
-module _ {M N : Type 0} (fieldM : M → Field) (field : N → Field) (g : N → ℕ) (f : M → N) (base : ℕ) (moved : (m : M) → field (f m) ≡ later base (fieldM m)) where
+module _ {M N : Type 0} (fieldM : M → Field) (field : N → Field) (g : N → ℕ) (f : M → N) (base : ℕ)
+    (moved : (m : M) → field (f m) ≡ later base (fieldM m)) where
   later_byte : (ms : List M) (k : ℕ) → byte_of field g (map f ms) (base + k) ≡ byte_of fieldM (λ m. g (f m)) ms k
   unfolding byte_of placed later
   later_byte [] k = refl
@@ -164,7 +169,8 @@ Multiple t x = (q : ℕ) × (x ≡ q * t)
 module _ (w b q : ℕ) where
   own_bits : (x : ℕ) → (x % 2 ^ w * 2 ^ b + q * 2 ^ (w + b)) / 2 ^ b % 2 ^ w ≡ x % 2 ^ w
   own_bits x =
-      let e : x % 2 ^ w * 2 ^ b + q * 2 ^ (w + b) ≡ (x % 2 ^ w + q * 2 ^ w) * 2 ^ b = rw (pow-add 2 w b, ← mul_assoc q (2 ^ w) (2 ^ b), add-mul (x % 2 ^ w) (q * 2 ^ w) (2 ^ b)) in
+      let e : x % 2 ^ w * 2 ^ b + q * 2 ^ (w + b) ≡ (x % 2 ^ w + q * 2 ^ w) * 2 ^ b =
+      rw (pow-add 2 w b, ← mul_assoc q (2 ^ w) (2 ^ b), add-mul (x % 2 ^ w) (q * 2 ^ w) (2 ^ b)) in
       rw (e, mul-div_cancel (x % 2 ^ w + q * 2 ^ w) (pow_pos b), add-mul-mod_self_right (x % 2 ^ w) q (2 ^ w))
       (mod-mod x (2 ^ w))
 
@@ -173,20 +179,31 @@ module _ (w b q : ℕ) where
   higher_bits x d =
       let lo : x % 2 ^ w * 2 ^ b < 2 ^ (w + b) = shl_lt w b (mod-lt x (pow_pos w)) in
       sym (shr-shr (x % 2 ^ w * 2 ^ b + q * 2 ^ (w + b)) (w + b) d)
-      ∙ ap (λ (y : ℕ). y / 2 ^ d) (ap (λ (y : ℕ). y / 2 ^ (w + b)) (add_comm (x % 2 ^ w * 2 ^ b) (q * 2 ^ (w + b))) ∙ high q (w + b) lo ∙ sym (mul-div_cancel q (pow_pos (w + b))))
+      ∙ ap (λ (y : ℕ). y / 2 ^ d)
+      (ap (λ (y : ℕ). y / 2 ^ (w + b)) (add_comm (x % 2 ^ w * 2 ^ b) (q * 2 ^ (w + b))) ∙ high q (w + b) lo
+      ∙ sym (mul-div_cancel q (pow_pos (w + b))))
       ∙ shr-shr (q * 2 ^ (w + b)) (w + b) d
 
   -- the same for any bit above the top
   skip : (x rest bit : ℕ) → w + b ≤ bit → rest ≡ q * 2 ^ (w + b) → (x % 2 ^ w * 2 ^ b + rest) / 2 ^ bit ≡ rest / 2 ^ bit
   skip x rest bit h e =
       let k : bit ≡ w + b + (bit - (w + b)) = omega arith in
-      rw e (ap (λ (y : ℕ). (x % 2 ^ w * 2 ^ b + q * 2 ^ (w + b)) / 2 ^ y) k ∙ higher_bits x (bit - (w + b)) ∙ ap (λ (y : ℕ). q * 2 ^ (w + b) / 2 ^ y) (sym k))
+      rw e (ap (λ (y : ℕ). (x % 2 ^ w * 2 ^ b + q * 2 ^ (w + b)) / 2 ^ y) k ∙ higher_bits x (bit - (w + b))
+      ∙ ap (λ (y : ℕ). q * 2 ^ (w + b) / 2 ^ y) (sym k))
 
 -- a number placed from bit on keeps a multiple of the bits from top on, if bit lies above
 stack : (x top bit rest : ℕ) → top ≤ bit → Multiple (2 ^ top) rest → Multiple (2 ^ top) (x * 2 ^ bit + rest)
 stack x top bit rest h (q, e) =
-    let k : bit ≡ bit - top + top = omega arith in
-    (x * 2 ^ (bit - top) + q, ap₂ (λ (y z : ℕ). x * 2 ^ y + z) k e ∙ rw (pow-add 2 (bit - top) top, add-mul (x * 2 ^ (bit - top)) q (2 ^ top), mul_assoc x (2 ^ (bit - top)) (2 ^ top)))
+    let k : bit ≡ bit - top + top = omega arith in (
+      x * 2 ^ (bit - top) + q,
+      ap₂ (λ (y z : ℕ). x * 2 ^ y + z) k e
+          ∙ rw (
+            pow-add 2 (bit - top) top,
+            add-mul (x * 2 ^ (bit - top)) q (2 ^ top),
+            mul_assoc x (2 ^ (bit - top))
+                (2 ^ top),
+          ),
+    )
 
 module _ {N : Type 0} (field : N → Field) (g : N → ℕ) where
   -- the fields above f in its byte sum up to a multiple of the bits from f's top on
@@ -200,7 +217,8 @@ module _ {N : Type 0} (field : N → Field) (g : N → ℕ) where
     where
       at : (b : Bool) → cond b (leb (f.width + f.bit) (field n).bit) true ≡ true
           → Multiple (2 ^ (f.width + f.bit)) (byte_of field g ns f.byte)
-          → Multiple (2 ^ (f.width + f.bit)) (cond b (placed (field n) (g n) + byte_of field g ns f.byte) (byte_of field g ns f.byte))
+          → Multiple (2 ^ (f.width + f.bit))
+          (cond b (placed (field n) (g n) + byte_of field g ns f.byte) (byte_of field g ns f.byte))
       at true h m =
           stack (g n % 2 ^ (field n).width) (f.width + f.bit) (field n).bit (byte_of field g ns f.byte)
           (leb-true (f.width + f.bit) (field n).bit h) m
@@ -210,7 +228,8 @@ module _ {N : Type 0} (field : N → Field) (g : N → ℕ) where
   abbrev pub Back : List N → N → Type 0
   Back ns n = byte_of field g ns (field n).byte / 2 ^ (field n).bit % 2 ^ (field n).width ≡ g n % 2 ^ (field n).width
 
-  module _ (n : N) (ns : List N) (m : Multiple (2 ^ ((field n).width + (field n).bit)) (byte_of field g ns (field n).byte)) where
+  module _ (n : N) (ns : List N)
+      (m : Multiple (2 ^ ((field n).width + (field n).bit)) (byte_of field g ns (field n).byte)) where
     first_back : Back (n ∷ ns) n
     unfolding byte_of placed
     first_back =
@@ -221,12 +240,17 @@ module _ {N : Type 0} (field : N → Field) (g : N → ℕ) where
     other_back o a r = at (eqb (field n).byte (field o).byte) refl
       where
         at : (b : Bool) → eqb (field n).byte (field o).byte ≡ b
-            → cond b (placed (field n) (g n) + byte_of field g ns (field o).byte) (byte_of field g ns (field o).byte) / 2 ^ (field o).bit % 2 ^ (field o).width ≡ g o % 2 ^ (field o).width
+            → cond b (placed (field n) (g n) + byte_of field g ns (field o).byte)
+            (byte_of field g ns (field o).byte) / 2 ^ (field o).bit % 2 ^ (field o).width
+            ≡ g o % 2 ^ (field o).width
         at true e =
             let q : (field n).byte ≡ (field o).byte = eqb-true (field n).byte (field o).byte e in
-            let a' : leb ((field n).width + (field n).bit) (field o).bit ≡ true = rw (eq-eqb (field o).byte (field n).byte (sym q)) at a in
-            let h : (field n).width + (field n).bit ≤ (field o).bit = leb-true ((field n).width + (field n).bit) (field o).bit a' in
-            let s : byte_of field g ns (field o).byte ≡ m.0 * 2 ^ ((field n).width + (field n).bit) = ap (byte_of field g ns) (sym q) ∙ m.1 in
+            let a' : leb ((field n).width + (field n).bit) (field o).bit ≡ true =
+            rw (eq-eqb (field o).byte (field n).byte (sym q)) at a in
+            let h : (field n).width + (field n).bit ≤ (field o).bit =
+            leb-true ((field n).width + (field n).bit) (field o).bit a' in
+            let s : byte_of field g ns (field o).byte ≡ m.0 * 2 ^ ((field n).width + (field n).bit) =
+            ap (byte_of field g ns) (sym q) ∙ m.1 in
             ap (λ (y : ℕ). y % 2 ^ (field o).width)
             (skip (field n).width (field n).bit m.0 (g n) (byte_of field g ns (field o).byte) (field o).bit h s)
             ∙ r
@@ -238,5 +262,8 @@ module _ {N : Type 0} (field : N → Field) (g : N → ℕ) where
   read_back [] e = tt
   read_back (n ∷ ns) e =
       let p = (and-eq-true_iff (every (λ m. above (field n) (field m)) ns) (stacked field ns)).0 e in
-      let m = multiple (field n) ns p.0 in
-      (first_back n ns m, both_each (other_back n ns m) ns (each (λ m. above (field n) (field m)) ns p.0) (read_back ns p.1))
+      let m = multiple (field n) ns p.0 in (
+        first_back n ns m,
+        both_each (other_back n ns m) ns (each (λ m. above (field n) (field m)) ns p.0)
+            (read_back ns p.1),
+      )

@@ -38,7 +38,8 @@ shared_bytes p = bytes_of field_of (number_of p) shared_names 102 26
 
 -- 6 and 128 zeros for a patch that does not fit, else its bytes
 unfoldable pub pack_of : Patch → Packed
-pack_of p = cond (patch_fits p) (record { number = 0; bytes = packed p }) (record { number = 6; bytes = replicate 128 0 })
+pack_of p = cond (patch_fits p) (record { number = 0; bytes = packed p })
+    (record { number = 6; bytes = replicate 128 0 })
 
 -- bytes that a packer can have written: already clamped, every field's bits at most its largest number; and free of
 -- unused bits, each of the 128 the sum of its fields' bits and nothing else

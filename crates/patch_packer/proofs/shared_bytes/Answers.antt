@@ -6,29 +6,22 @@ use Rattle.patch_packer.proofs.Bytes.{shared_low, shared_bytes_lem}
 use Rattle.patch_packer.proofs.shared_bytes.Goals as goal
 
 pub overflow_mul-result : goal.overflow_mul-result
-overflow_mul-result c =
-    omega (arith, shared_low _ c.requires)
+overflow_mul-result c = omega (arith, shared_low _ c.requires)
 
 pub overflow_add-result : goal.overflow_add-result
-overflow_add-result c =
-    omega (arith, shared_low _ c.requires)
+overflow_add-result c = omega (arith, shared_low _ c.requires)
 
 pub overflow_mul-result-2 : goal.overflow_mul-result-2
-overflow_mul-result-2 c =
-    omega (arith, shared_low _ c.requires)
+overflow_mul-result-2 c = omega (arith, shared_low _ c.requires)
 
 pub overflow_add-result-2 : goal.overflow_add-result-2
-overflow_add-result-2 c =
-    omega (arith, shared_low _ c.requires)
+overflow_add-result-2 c = omega (arith, shared_low _ c.requires)
 
 pub overflow_mul-result-3 : goal.overflow_mul-result-3
-overflow_mul-result-3 c =
-    omega (arith, shared_low _ c.requires)
+overflow_mul-result-3 c = omega (arith, shared_low _ c.requires)
 
 pub overflow_add-result-3 : goal.overflow_add-result-3
-overflow_add-result-3 c =
-    omega (arith, shared_low _ c.requires)
+overflow_add-result-3 c = omega (arith, shared_low _ c.requires)
 
 pub returns : goal.returns
-returns c =
-    sym (shared_bytes_lem _ c.requires)
+returns c = sym (shared_bytes_lem _ c.requires)
