@@ -3,12 +3,8 @@ use mathlib.Core.Path.{refl}
 use lib.Ieee.{round, of_bits, of_int, div}
 use Rattle.numbers.specs.F32.{decimal}
 use Rattle.envelope_inner.specs.Envelope.{initialised}
-use Rattle.envelope_inner.proofs.init.Statement.{statement}
-use Rattle.envelope_inner.proofs.init.Tie as tie
+use Rattle.envelope_inner.proofs.init.Goals as goal
 
-returns : tie.Need-returns
+pub returns : goal.returns
 unfolding initialised decimal round of_bits of_int div
 returns c = refl
-
-pub init_spec : {M : Type 1} → statement M
-init_spec = tie.close (tie.spec returns)
