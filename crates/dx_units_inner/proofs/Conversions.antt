@@ -19,7 +19,8 @@ use Rattle.dx_units_inner.specs.declared.Increments.{Increments}
 use Rattle.dx_units_inner.specs.declared.Ratio.TheVariants.{Note, Hertz}
 use Rattle.dx_units_inner.specs.Tables.{lut_cube_root}
 use Rattle.dx_units_inner.specs.Units.{pitch_envelope_level, operator_envelope_increment, lfo_steps}
-use Rattle.dx_units_inner.specs.Units.{lfo_frequency, delay_steps, lfo_delay, normalized_velocity_of, bent, side_scaling}
+use Rattle.dx_units_inner.specs.Units.{lfo_frequency, delay_steps, lfo_delay, normalized_velocity_of, bent}
+use Rattle.dx_units_inner.specs.Units.{side_scaling}
 use Rattle.dx_units_inner.specs.Units.{keyboard_scaling_of, coarse_semitones, base_semitones, fine_factor}
 use Rattle.dx_units_inner.specs.Units.{frequency_ratio}
 
@@ -28,7 +29,8 @@ use Rattle.dx_units_inner.specs.Units.{frequency_ratio}
 pub pitch_level : (level : ℕ) {a t : Float}
     → a ≡ magnitude ((as_float level ⊖ decimal 50 0) ⊘ decimal 32 0 ⊕ decimal 2 2)
     → t ≡ maximum (a ⊖ decimal 1 0) (decimal 0 0)
-    → (as_float level ⊖ decimal 50 0) ⊘ decimal 32 0 ⊗ (decimal 1 0 ⊕ t ⊗ t ⊗ decimal 53056 4) ≡ pitch_envelope_level level
+    → (as_float level ⊖ decimal 50 0) ⊘ decimal 32 0 ⊗ (decimal 1 0 ⊕ t ⊗ t ⊗ decimal 53056 4)
+        ≡ pitch_envelope_level level
 unfolding pitch_envelope_level
 pitch_level level ea et = simp (et, ea)
 
@@ -77,7 +79,8 @@ delay_some delay n ed ek ev ew = simp (ne_eqb delay 0 n, ev, ew, ek, ed)
 
 -- ---- velocity and rate scaling
 
-pub velocity : (v : Float) {m r : Float} → m ≡ minimum v (decimal 99 2) → r ≡ interpolated lut_cube_root m (decimal 16 0)
+pub velocity : (v : Float) {m r : Float} → m ≡ minimum v (decimal 99 2)
+    → r ≡ interpolated lut_cube_root m (decimal 16 0)
     → decimal 16 0 ⊗ (r ⊖ decimal 918 3) ≡ normalized_velocity_of v
 unfolding normalized_velocity_of
 velocity v em er = simp (er, em)
@@ -144,8 +147,10 @@ pub factor_hertz : (mode fine : ℕ) → (mode ≡ 0 → ⊥) → decimal 1 0 �
 unfolding fine_factor
 factor_hertz mode fine n = simp (ne_eqb mode 0 n)
 
-module _ (high low : List Float) (mode coarse fine detune : ℕ) {b r f : Float} (eb : b ≡ base_semitones mode coarse fine)
-    (er : r ≡ ratio_of high low (b ⊕ (as_float detune ⊖ decimal 7 0) ⊗ decimal 15 3)) (ef : f ≡ fine_factor mode fine) where
+module _ (high low : List Float) (mode coarse fine detune : ℕ) {b r f : Float}
+    (eb : b ≡ base_semitones mode coarse fine)
+    (er : r ≡ ratio_of high low (b ⊕ (as_float detune ⊖ decimal 7 0) ⊗ decimal 15 3))
+    (ef : f ≡ fine_factor mode fine) where
   pub to_note : mode ≡ 0 → Note (r ⊗ f) ≡ frequency_ratio high low mode coarse fine detune
   unfolding frequency_ratio
   to_note e = simp (eq-eqb mode 0 e, er, ef, eb)

@@ -1,6 +1,7 @@
 -- The conversions of dx_units.rs, in its order: one rounding per written operation, in the Rust's order. Definitions
 -- only, all to be believed. A step of level is 0.75 dB, an eighth of an octave.
-use Rattle.std.specs.Prelude.{not, ◌&&◌, ◌||◌, cond, List, ℕ, ◌+◌, ◌-◌, ◌*◌, ◌/◌, ◌%◌, ◌^◌, max, eqb, ltb, pos, get_or, Float}
+use Rattle.std.specs.Prelude.{not, ◌&&◌, ◌||◌, cond, List, ℕ, ◌+◌, ◌-◌, ◌*◌, ◌/◌, ◌%◌, ◌^◌, max, eqb, ltb, pos, get_or}
+use Rattle.std.specs.Prelude.{Float}
 use Rattle.std.specs.Float.{nan, binary32}
 use Rattle.std.specs.Float.Ieee.{neg, lt, of_int}
 use Rattle.std.specs.Int.{w32}
@@ -71,7 +72,10 @@ unfoldable pub lfo_delay : ℕ → Increments
 lfo_delay delay =
     let d = delay_steps delay in
     cond (eqb delay 0) (record { first = decimal 100000 0; second = decimal 100000 0 })
-    (record { first = as_float d ⊗ min_lfo_frequency; second = as_float (max 128 (d / 128 % 512 * 128)) ⊗ min_lfo_frequency })
+    (record {
+      first = as_float d ⊗ min_lfo_frequency;
+      second = as_float (max 128 (d / 128 % 512 * 128)) ⊗ min_lfo_frequency;
+    })
 
 -- a velocity, 0 to 1, as the steps that each unit of sensitivity changes a level by: 16 times its cube root, less
 -- 0.918, by straight lines between the table's entries; none at about 0.77
@@ -82,7 +86,8 @@ normalized_velocity_of velocity =
 -- what a note makes of an envelope's increments, as a factor: 1 at note 21, and 96 notes up double it as often as the
 -- scaling, 0 to 7, says
 unfoldable pub rate_scaling_of : Float → ℕ → Float
-rate_scaling_of note scaling = pow2_fast (as_float scaling ⊗ (note ⊗ decimal 33333 5 ⊖ decimal 7 0) ⊗ decimal 3125 5) (pos 1)
+rate_scaling_of note scaling =
+    pow2_fast (as_float scaling ⊗ (note ⊗ decimal 33333 5 ⊖ decimal 7 0) ⊗ decimal 3125 5) (pos 1)
 
 -- an operator's amplitude modulation sensitivity, 0 to 3, as the share of the modulation that it takes
 unfoldable pub amp_mod_sensitivity_of : ℕ → Float

@@ -1,5 +1,6 @@
 -- The orders of `pow_2_fast`, and what its calls give, over plain variables. Assumes nothing.
-use Rattle.std.proofs.Common.{◌≡◌, ℕ, ◌^◌, ◌<◌, true, false, ℤ, pos, negsuc, refl, ap, ◌∙◌, arith, w32, of_z, eq-eqb, ne_eqb}
+use Rattle.std.proofs.Common.{◌≡◌, ℕ, ◌^◌, ◌<◌, true, false, ℤ, pos, negsuc, refl, ap, ◌∙◌, arith, w32, of_z, eq-eqb}
+use Rattle.std.proofs.Common.{ne_eqb}
 use lib.Signed.{mag}
 use lib.Ieee.{Float, binary32, lt, of_bits, of_int, to_signed}
 use Rattle.numbers.specs.F32.{◌⊕◌, ◌⊖◌, ◌⊗◌, decimal}
@@ -24,7 +25,8 @@ pub below_zero : (x : Float) {n m r s : ℤ} → lt x (decimal 0 0) ≡ true →
 unfolding whole_below
 below_zero x h en em er es = simp (h, es, er, em, en)
 
-pub at_zero_or_above : (x : Float) {n s : ℤ} → lt x (decimal 0 0) ≡ false → n ≡ to_signed 31 x → s ≡ n → s ≡ whole_below x
+pub at_zero_or_above : (x : Float) {n s : ℤ} → lt x (decimal 0 0) ≡ false → n ≡ to_signed 31 x → s ≡ n
+    → s ≡ whole_below x
 unfolding whole_below
 at_zero_or_above x h en es = simp (h, es, en)
 

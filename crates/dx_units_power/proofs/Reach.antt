@@ -1,6 +1,9 @@
 -- What the tests of `pow_2_fast_1` and `pow_2_fast_2` say of a float, and what its casts and its power of two are
 -- there. Assumes nothing.
-use Rattle.std.proofs.Common.{◌≡◌, ℕ, zero, suc, ◌+◌, ◌-◌, ◌*◌, ◌/◌, ◌%◌, ◌^◌, ◌<◌, ◌≤◌, min, Bool, true, false, cond, not, ◌&&◌, ◌||◌, T, eqb, ltb, ℤ, pos, negsuc, neg_ℤ, sym, refl, ap, ◌∙◌, subst, mul_comm, div-lt_iff_lt-mul, add-one, arith, le→leb, lt→ltb, w32, to_z, of_z, ltb-false, ltb-true, le-ltb, lt-ltb, eqb-true}
+use Rattle.std.proofs.Common.{◌≡◌, ℕ, zero, suc, ◌+◌, ◌-◌, ◌*◌, ◌/◌, ◌%◌, ◌^◌, ◌<◌, ◌≤◌, min, Bool, true, false, cond}
+use Rattle.std.proofs.Common.{not, ◌&&◌, ◌||◌, T, eqb, ltb, ℤ, pos, negsuc, neg_ℤ, sym, refl, ap, ◌∙◌, subst, mul_comm}
+use Rattle.std.proofs.Common.{div-lt_iff_lt-mul, add-one, arith, le→leb, lt→ltb, w32, to_z, of_z, ltb-false, ltb-true}
+use Rattle.std.proofs.Common.{le-ltb, lt-ltb, eqb-true}
 use Prim.Native.Nat.{compare}
 use native.Mathlib.Nat.{div-le_of_le-mul}
 use borrow.Author.Tests.{eqb-false}

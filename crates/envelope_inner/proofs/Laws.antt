@@ -10,7 +10,8 @@ use lib.Dec.{eqb, ltb}
 use lib.Ieee.{Float, le}
 use Rattle.numbers.specs.F32.{decimal}
 use Rattle.envelope_inner.specs.declared.Envelope.{Envelope}
-use Rattle.envelope_inner.specs.Envelope.{initialised, previous_level, moved_to, jumped_to, gated, stepped_phase, advanced, rendered}
+use Rattle.envelope_inner.specs.Envelope.{initialised, previous_level, moved_to, jumped_to, gated, stepped_phase}
+use Rattle.envelope_inner.specs.Envelope.{advanced, rendered}
 use Rattle.envelope_inner.specs.Set.{set_to, operator_set, pitch_set}
 
 -- ---- stages
@@ -33,7 +34,9 @@ gated_stage reshape false e h = go (eqb e.stage 3)
     go true = h
     go false = omega arith
 
-pub gated_moves : (reshape gate : Bool) (e : Envelope) → gated reshape gate e ≡ moved_to e (gated reshape gate e).stage (gated reshape gate e).phase (gated reshape gate e).start
+pub gated_moves : (reshape gate : Bool) (e : Envelope)
+    → gated reshape gate e
+    ≡ moved_to e (gated reshape gate e).stage (gated reshape gate e).phase (gated reshape gate e).start
 unfolding gated
 gated_moves reshape true e = go (eqb e.stage 3)
   where
@@ -50,7 +53,11 @@ module _ (phase : Float) (e : Envelope) where
   -- an advance under its two tests
   abbrev advance_of : Bool → Bool → Envelope
   advance_of p b =
-      cond p (cond b (moved_to e (e.stage + 1) (decimal 0 0) previous_level) (moved_to e e.stage (decimal 1 0) previous_level)) (moved_to e e.stage phase e.start)
+      cond p
+      (cond b
+      (moved_to e (e.stage + 1) (decimal 0 0) previous_level)
+      (moved_to e e.stage (decimal 1 0) previous_level))
+      (moved_to e e.stage phase e.start)
 
   -- it goes to a stage that there is, too
   pub advanced_stage : e.stage ≤ 3 → (advanced phase e).stage ≤ 3
@@ -63,11 +70,13 @@ module _ (phase : Float) (e : Envelope) where
       go false b l = h
 
   -- nothing but stage, phase and start moves
-  pub advanced_moves : advanced phase e ≡ moved_to e (advanced phase e).stage (advanced phase e).phase (advanced phase e).start
+  pub advanced_moves : advanced phase e
+      ≡ moved_to e (advanced phase e).stage (advanced phase e).phase (advanced phase e).start
   unfolding advanced
   advanced_moves = go (le (decimal 1 0) phase) (ltb e.stage 2)
     where
-      go : (p b : Bool) → advance_of p b ≡ moved_to e (advance_of p b).stage (advance_of p b).phase (advance_of p b).start
+      go : (p b : Bool)
+          → advance_of p b ≡ moved_to e (advance_of p b).stage (advance_of p b).phase (advance_of p b).start
       go true true = refl
       go true false = refl
       go false b = refl
@@ -83,7 +92,8 @@ module _ (phase : Float) (e : Envelope) where
       go false b = omega arith
 
   -- and the phase left over is dropped
-  pub left_over_dropped : le (decimal 1 0) phase ≡ true → ltb e.stage 2 ≡ true → advanced phase e ≡ moved_to e (e.stage + 1) (decimal 0 0) previous_level
+  pub left_over_dropped : le (decimal 1 0) phase ≡ true → ltb e.stage 2 ≡ true
+      → advanced phase e ≡ moved_to e (e.stage + 1) (decimal 0 0) previous_level
   unfolding advanced
   left_over_dropped p b = rw (p, b)
 
@@ -103,7 +113,8 @@ module _ (reshape gate : Bool) (rate adScale releaseScale : Float) (e : Envelope
   rendered_moves =
       let g = gated reshape gate e in
       let r = advanced (stepped_phase rate adScale releaseScale g) g in
-      advanced_moves (stepped_phase rate adScale releaseScale g) g ∙ ap (λ (h : Envelope). moved_to h r.stage r.phase r.start) (gated_moves reshape gate e)
+      advanced_moves (stepped_phase rate adScale releaseScale g) g
+          ∙ ap (λ (h : Envelope). moved_to h r.stage r.phase r.start) (gated_moves reshape gate e)
 
 -- ---- setting
 

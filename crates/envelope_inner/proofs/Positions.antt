@@ -7,7 +7,8 @@ use lib.Ieee.{Float}
 use Rattle.numbers.specs.F32.{decimal}
 use Rattle.envelope_inner.specs.declared.Envelope.{Envelope}
 use Rattle.envelope_inner.specs.declared.Position.{Position}
-use Rattle.envelope_inner.specs.Envelope.{level_value, value_at, current_value, standing, gated, stepped_phase, advanced, rendered}
+use Rattle.envelope_inner.specs.Envelope.{level_value, value_at, current_value, standing, gated, stepped_phase}
+use Rattle.envelope_inner.specs.Envelope.{advanced, rendered}
 use Rattle.envelope_inner.proofs.Laws.{gated_stage}
 
 like : (a b : Bool) → beq a b ≡ true → b ≡ a
@@ -30,7 +31,8 @@ module _ (reshape gate : Bool) (e : Envelope) (q : Position) where
   unfolding gated current_value value_at
   gate_jumps {stage} {start} t es ev = go gate (like gate (eqb q.stage 3) t) es
     where
-      go : (g : Bool) → eqb q.stage 3 ≡ g → stage ≡ cond g 0 3 → standing e (record { stage = stage; phase = decimal 0 0; start = start }) ≡ gated reshape g (standing e q)
+      go : (g : Bool) → eqb q.stage 3 ≡ g → stage ≡ cond g 0 3
+          → standing e (record { stage = stage; phase = decimal 0 0; start = start }) ≡ gated reshape g (standing e q)
       go true b s = rw (b, s, ev)
       go false b s = rw (b, s, ev)
 
@@ -43,14 +45,17 @@ module _ (reshape gate : Bool) (e : Envelope) (q : Position) where
       go true b = rw b
       go false b = rw b
 
-module _ (reshape gate : Bool) (rate adScale releaseScale : Float) (e : Envelope) {f : Position} (ef : standing e f ≡ gated reshape gate e) where
+module _ (reshape gate : Bool) (rate adScale releaseScale : Float) (e : Envelope) {f : Position}
+    (ef : standing e f ≡ gated reshape gate e) where
   -- the gate's stage is one that there is
   pub followed_stage : e.stage ≤ 3 → f.stage ≤ 3
   followed_stage h = rw (ap (λ (g : Envelope). g.stage) ef) (gated_stage reshape gate e h)
 
   -- the gate, the step and the advance are a call
-  pub rendered_of : {phase : Float} {r : Position} → phase ≡ stepped_phase rate adScale releaseScale (standing e f) → standing e r ≡ advanced phase (standing e f)
+  pub rendered_of : {phase : Float} {r : Position} → phase ≡ stepped_phase rate adScale releaseScale (standing e f)
+      → standing e r ≡ advanced phase (standing e f)
       → standing e r ≡ rendered reshape gate rate adScale releaseScale e
   unfolding rendered
   rendered_of ep er =
-      er ∙ ap (λ (p : Float). advanced p (standing e f)) ep ∙ ap (λ (g : Envelope). advanced (stepped_phase rate adScale releaseScale g) g) ef
+      er ∙ ap (λ (p : Float). advanced p (standing e f)) ep
+          ∙ ap (λ (g : Envelope). advanced (stepped_phase rate adScale releaseScale g) g) ef

@@ -25,7 +25,9 @@ jump_is = refl
 -- a finite number times 0 is a zero
 times_zero : (s : Bool) (m : ℕ) (e : ℤ) → fin s m e ⊗ fin false 0 (pos 0) ≡ fin (unlike s false) 0 (pos 0)
 unfolding mul round
-times_zero s m e = round_same binary32 (unlike s false) (m * up e * 0) (down e * 1) 0 1 (rw mul-one (down_pos e)) (lit< tt) (simp (mul-zero, zero-mul))
+times_zero s m e =
+    round_same binary32 (unlike s false) (m * up e * 0) (down e * 1) 0 1 (rw mul-one (down_pos e)) (lit< tt)
+    (simp (mul-zero, zero-mul))
 
 -- added to 6.7 it leaves it
 plus_jump : (s : Bool) → fin s 0 (pos 0) ⊕ six_seven ≡ six_seven
@@ -49,7 +51,8 @@ unfolding line
 flat s m e = rw (no_height, times_zero) (plus_jump (unlike s false))
 
 -- both ends below
-pub both_below : (phase from to : Float) (s : Bool) (m : ℕ) (e : ℤ) → lt from to ≡ true → lt jump from ≡ false → lt jump to ≡ false → bent phase ≡ fin s m e
+pub both_below : (phase from to : Float) (s : Bool) (m : ℕ) (e : ℤ) → lt from to ≡ true → lt jump from ≡ false
+    → lt jump to ≡ false → bent phase ≡ fin s m e
     → segment true phase from to ≡ jump
 unfolding segment
 both_below phase from to s m e rises below-from below-to b =
@@ -61,5 +64,7 @@ unfolding bent decimal sub neg add sum mul round
 bent_one = refl
 
 -- held at sustain too, where the phase is 1
-pub both_below_at_sustain : (from to : Float) → lt from to ≡ true → lt jump from ≡ false → lt jump to ≡ false → segment true (decimal 1 0) from to ≡ jump
-both_below_at_sustain from to rises below-from below-to = both_below (decimal 1 0) from to false 2097153 (negsuc 20) rises below-from below-to bent_one
+pub both_below_at_sustain : (from to : Float) → lt from to ≡ true → lt jump from ≡ false → lt jump to ≡ false
+    → segment true (decimal 1 0) from to ≡ jump
+both_below_at_sustain from to rises below-from below-to =
+    both_below (decimal 1 0) from to false 2097153 (negsuc 20) rises below-from below-to bent_one

@@ -15,7 +15,8 @@ module _ (n stage : ℕ) (increment : List Float) (t : Float) where
   reached_last e = rw e
 
   -- the time ends in this one
-  pub reached_here : (k : ℕ) → n ≡ suc k → lt t (duration increment stage) ≡ true → reached n stage increment t ≡ record { stage = stage; t = t }
+  pub reached_here : (k : ℕ) → n ≡ suc k → lt t (duration increment stage) ≡ true
+      → reached n stage increment t ≡ record { stage = stage; t = t }
   unfolding reached
   reached_here k e h = rw (e, h)
 

@@ -9,7 +9,8 @@ use Rattle.envelope_inner.proofs.hold.Goals as goal
 
 pub returns-then-stage-lt3 : goal.returns-then-stage-lt3
 unfolding held previous_level minus_decimal round of_bits
-returns-then-stage-lt3 c = simp (sym c.reach-reached.ensures, lt-ltb _ _ c.if-stage-lt3.true) (rw c.pick.ensures at c.value.ensures)
+returns-then-stage-lt3 c =
+    simp (sym c.reach-reached.ensures, lt-ltb _ _ c.if-stage-lt3.true) (rw c.pick.ensures at c.value.ensures)
 
 pub returns : goal.returns
 unfolding held

@@ -6,7 +6,8 @@ use Rattle.envelope_inner.specs.Scrub.{reached}
 use Rattle.envelope_inner.proofs.reach.Given as goal
 
 abbrev pub invariant-loop-stage : goal.invariant-loop-stage
-invariant-loop-stage l = (l.stage ≤ 3) × (reached (3 - l.stage) l.stage l.envelope.increment l.left ≡ reached 3 0 l.envelope.increment l.t)
+invariant-loop-stage l =
+    (l.stage ≤ 3) × (reached (3 - l.stage) l.stage l.envelope.increment l.left ≡ reached 3 0 l.envelope.increment l.t)
 
 abbrev pub decreases-loop-stage : goal.decreases-loop-stage
 decreases-loop-stage l = 3 - l.stage
