@@ -81,7 +81,7 @@ put_there v first (l ∷ ls) (suc k) h w =
 module _ (pairs : List Float) (g : Setting) (c : Call) (d : Desk) where
   abbrev left : Chain
   left =
-      ended pairs (source_of g.feedback-scale c d.quarters) (length (get_or d.quarters c.output [])) 0
+      ended pairs (source_of g.feedback_scale c d.quarters) (length (get_or d.quarters c.output [])) 0
       (chain_at g d.operators c.first c.n)
 
   length_left : length left.lanes ≡ c.n
@@ -115,7 +115,7 @@ module _ (pairs : List Float) (g : Setting) (c : Call) (d : Desk) where
       let at = lane_at_lem g d.operators.operator c.first c.n k h in
       let p = ap (λ (l : Lane). l.phase) at in
       let t = ap (λ (l : Lane). l.step) at in
-      let e = phase_ended pairs (source_of g.feedback-scale c d.quarters)
+      let e = phase_ended pairs (source_of g.feedback_scale c d.quarters)
       (length (get_or d.quarters c.output [])) 0 s k
       (rw (length_lanes g d.operators.operator c.first c.n) h) (rw p f) in
       ap (λ (o : Operator). o.phase)
@@ -194,7 +194,8 @@ pub plan_others : (pairs : List Float) (plan : Plan) (steps : List ℕ) (targets
     → Covering plan.calls plan.count operators
     → ((k : ℕ) → k < plan.count → Sound operators (get_or plan.calls k no_call)) → operators ≤ length v.operator
     → length l % 4 ≡ 0 → (j : ℕ) → operators ≤ j
-    → get_or (ran pairs plan steps targets amount v l).operators.operator j no_operator ≡ get_or v.operator j no_operator
+    → get_or (ran pairs plan steps targets amount v l).operators.operator j no_operator
+    ≡ get_or v.operator j no_operator
 unfolding ran
 plan_others pairs plan steps targets amount operators v l cover sound six whole j h =
     let n = length l / 4 in

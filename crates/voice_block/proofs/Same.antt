@@ -25,13 +25,13 @@ use Rattle.voice_block.specs.Calls.{Setting}
 
 -- ---- a call: the quarter that it reads matters only where it reads, and what stood there only where it adds
 
-source_same : (feedback_scale_lem : Float) (c : Call) (qs ps : List (List Float))
+source_same : (feedback_scale : Float) (c : Call) (qs ps : List (List Float))
     → (reading c ≡ true → get_or qs c.input [] ≡ get_or ps c.input [])
-    → source_of feedback_scale_lem c qs ≡ source_of feedback_scale_lem c ps
+    → source_of feedback_scale c qs ≡ source_of feedback_scale c ps
 unfolding source_of
-source_same feedback_scale_lem c qs ps h = pick (reading c) refl
+source_same feedback_scale c qs ps h = pick (reading c) refl
   where
-    pick : (b : Bool) → reading c ≡ b → source_of feedback_scale_lem c qs ≡ source_of feedback_scale_lem c ps
+    pick : (b : Bool) → reading c ≡ b → source_of feedback_scale c qs ≡ source_of feedback_scale c ps
     pick true e = rw (e, h e)
     pick false e = rw e
 
@@ -44,7 +44,8 @@ written_same pairs source false s o p h e = set_ignores pairs source 0 s o p e
 -- what f sees of a quarter is the same in both lists after the same place is written
 set_same : {A : Type 0} (f : List Float → A) (qs ps : List (List Float)) (o q : ℕ) (x y : List Float)
     → length qs ≡ length ps → f x ≡ f y
-    → ((q ≡ o → ⊥) → f (get_or qs q []) ≡ f (get_or ps q [])) → f (get_or (set qs o x) q []) ≡ f (get_or (set ps o y) q [])
+    → ((q ≡ o → ⊥) → f (get_or qs q []) ≡ f (get_or ps q [])) → f (get_or (set qs o x) q [])
+    ≡ f (get_or (set ps o y) q [])
 set_same f [] [] o q x y e n h = refl
 set_same f [] (b ∷ ps) o q x y e n h = absurd (suc-ne-zero _ (sym e))
 set_same f (a ∷ qs) [] o q x y e n h = absurd (suc-ne-zero _ e)
@@ -84,11 +85,11 @@ module _ (cs : List Call) (k : ℕ) (d e : Desk) (a : Agree cs k d e) where
   unfolding called
   call_more pairs g safe =
       let c = get_or cs k no_call in
-      let z = source_same g.feedback-scale c d.quarters e.quarters
+      let z = source_same g.feedback_scale c d.quarters e.quarters
       (λ r. a.quarters c.input (safe.reads r)) in
       agree_more _ _ _ _
       (rw (a.operators, z, a.sizes c.output))
-      (rw (a.operators, z) (written_same pairs (source_of g.feedback-scale c e.quarters) c.add
+      (rw (a.operators, z) (written_same pairs (source_of g.feedback_scale c e.quarters) c.add
       (chain_at g e.operators c.first c.n) _ _ (λ r. a.quarters c.output (safe.adds r))
       (a.sizes c.output)))
 
@@ -149,7 +150,7 @@ plan_size pairs g cs (suc k) d q =
     let b = called_up_to pairs g cs k d in
     let c = get_or cs k no_call in
     set_size b.quarters c.output q _
-    (length_written pairs (source_of g.feedback-scale c b.quarters) c.add 0
+    (length_written pairs (source_of g.feedback_scale c b.quarters) c.add 0
     (chain_at g b.operators c.first c.n) (get_or b.quarters c.output []))
     ∙ plan_size pairs g cs k d q
 

@@ -9,7 +9,6 @@ use lib.ListN.{length, get_or, set}
 use lib.Ieee.{Float, nan}
 use Rattle.algorithms.specs.declared.Plan.{Plan}
 use Rattle.operator.specs.Sample.{lane_of, operator_of, ramp_scale, feedback_scale_of}
-use Rattle.operator.specs.Chain.{Chain}
 use Rattle.operator.specs.declared.Operator.{Operator}
 use Rattle.operator.specs.declared.Feedback.{Feedback}
 use Rattle.operator.specs.declared.Lane.{Lane}
@@ -47,7 +46,8 @@ zipped_set (x ∷ p) (y ∷ a) (suc i) l =
 pub lane_law : (steps : List ℕ) (targets : List Float) (pace : Pace) (p : List ℕ) (a : List Float) (i : ℕ)
     (o : Operator)
     → i < length p → i < length a → o ≡ numbered p a i
-    → lane_of o (get_or steps i 0) (get_or targets i nan) pace.ramp ≡ lane_at (setting_of steps targets pace) (zipped p a) i
+    → lane_of o (get_or steps i 0) (get_or targets i nan) pace.ramp
+    ≡ lane_at (setting_of steps targets pace) (zipped p a) i
 unfolding lane_at setting_of
 lane_law steps targets pace p a i o h k e =
     ap (λ (o : Operator). lane_of o (get_or steps i 0) (get_or targets i nan) pace.ramp) (e ∙ sym (zipped_at p a i h k))

@@ -1,6 +1,7 @@
 -- What the calls of a plan make of a block's quarters, of the operators and of the feedback: `ran`, at the end, is what
 -- the crate promises. Definitions only.
-use Rattle.std.specs.Prelude.{ℕ, zero, suc, ◌+◌, ◌/◌, ◌≤◌, ◌<◌, ◌≡◌, cond, List, [], ◌∷◌, eqb, length, get_or, set, Float}
+use Rattle.std.specs.Prelude.{ℕ, zero, suc, ◌+◌, ◌/◌, ◌≤◌, ◌<◌, ◌≡◌, cond, List, [], ◌∷◌, eqb}
+use Rattle.std.specs.Prelude.{length, get_or, set, Float}
 use Rattle.std.specs.Float.{nan}
 use Rattle.algorithms.specs.Plan.{no_call, reading}
 use Rattle.algorithms.specs.declared.Call.{Call}
@@ -21,7 +22,7 @@ pub record Setting : Type 0 where
   pub steps : List ℕ
   pub targets : List Float
   pub ramp : Float
-  pub feedback_scale_lem : Float
+  pub feedback_scale : Float
 
 -- what stands past the last operator: nothing asks for it
 abbrev pub no_operator : Operator
@@ -63,14 +64,14 @@ desk n v block = record { operators = v; quarters = split n 4 block }
 
 -- what modulates a call: a buffer where it reads one, else feedback or nothing
 unfoldable pub source_of : Float → Call → List (List Float) → Source
-source_of feedback_scale_lem c qs =
-    cond (reading c) (external (get_or qs c.input [])) (cond (eqb c.input 3) (feedback feedback_scale_lem) none)
+source_of feedback_scale c qs =
+    cond (reading c) (external (get_or qs c.input [])) (cond (eqb c.input 3) (feedback feedback_scale) none)
 
 module _ (pairs : List Float) (g : Setting) where
   -- the quarter that a call writes, and the operators after it
   unfoldable pub called : Call → Desk → Desk
   called c d =
-      let source = source_of g.feedback-scale c d.quarters in
+      let source = source_of g.feedback_scale c d.quarters in
       let there = get_or d.quarters c.output [] in
       let s = chain_at g d.operators c.first c.n in
       record {
@@ -91,7 +92,7 @@ setting steps targets amount n = record {
   steps = steps;
   targets = targets;
   ramp = ramp_scale n;
-  feedback_scale_lem = feedback_scale_of amount;
+  feedback_scale = feedback_scale_of amount;
 }
 
 -- the operators, the feedback and all four quarters after a plan, for these steps, targets and amount of feedback

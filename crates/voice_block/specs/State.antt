@@ -50,7 +50,7 @@ setting_of steps targets pace = record {
   steps = steps;
   targets = targets;
   ramp = pace.ramp;
-  feedback_scale_lem = pace.feedback_scale;
+  feedback_scale = pace.feedback_scale;
 }
 
 -- six operators, and two numbers of feedback

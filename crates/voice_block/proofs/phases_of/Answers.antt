@@ -1,0 +1,12 @@
+-- `voice_block::phases_of` meets its contract: there are six operators.
+-- Assumes nothing.
+use mathlib.Core.Path.{ap}
+use borrow.Author.Rules.{rules}
+use Rattle.voice_block.specs.Calls.{no_operator}
+use Rattle.voice_block.specs.State.{phases_of}
+use Rattle.voice_block.proofs.State.{six}
+use Rattle.voice_block.proofs.phases_of.Goals as goal
+
+pub returns : goal.returns
+unfolding phases_of
+returns c = ap phases_of (six no_operator c.args.state.operator (search rules))
