@@ -4,6 +4,7 @@
 use crate::heading;
 use lfo_inner::Lfo;
 use patch::ModulationParameters;
+use streams::Streams;
 
 // An LFO and the generator's number.
 #[derive(Clone, Copy)]
@@ -79,7 +80,7 @@ fn put_draws(line: &mut [u8], at: usize) -> usize {
 }
 
 // What a worker played before, the number that its generator had then, and the draws.
-fn worker(going: bool, name: &[u8], rate: u8, waveform: u8, blocks: u32) -> bool {
+fn worker(to: Streams, going: bool, name: &[u8], rate: u8, waveform: u8, blocks: u32) -> bool {
     if !going {
         return false;
     }
@@ -90,11 +91,18 @@ fn worker(going: bool, name: &[u8], rate: u8, waveform: u8, blocks: u32) -> bool
     let c = streams::put(&mut line, b, b", draws");
     let d = put_draws(&mut line, c);
     let e = streams::put(&mut line, d, b"\n");
-    streams::write(&line, e)
+    streams::write(to, &line, e)
 }
 
-pub fn run(going: bool) -> bool {
-    let a = heading(going, b"LFOs");
-    let b = worker(a, b"worker 1 played a triangle, number ", 40, 0, 100);
-    worker(b, b"worker 2 played a sample and hold, number ", 90, 5, 777)
+pub fn run(to: Streams, going: bool) -> bool {
+    let a = heading(to, going, b"LFOs");
+    let b = worker(to, a, b"worker 1 played a triangle, number ", 40, 0, 100);
+    worker(
+        to,
+        b,
+        b"worker 2 played a sample and hold, number ",
+        90,
+        5,
+        777,
+    )
 }

@@ -10,28 +10,34 @@ mod texts;
 mod units;
 mod voices;
 
+use streams::Streams;
+
 // A text and a number, if nothing went wrong before.
-fn line(going: bool, text: &[u8], n: u64) -> bool {
+fn line(to: Streams, going: bool, text: &[u8], n: u64) -> bool {
     if !going {
         return false;
     }
     let mut digits = [0u8; 20];
-    let k = io::decimal(n, &mut digits);
-    streams::print_line(b"", text, &digits[..k])
+    let k = streams::decimal(n, &mut digits);
+    streams::print_line(to, b"", text, &digits[..k])
 }
 
-fn heading(going: bool, text: &[u8]) -> bool {
+fn heading(to: Streams, going: bool, text: &[u8]) -> bool {
     if !going {
         return false;
     }
-    streams::print_line(b"", b"# ", text)
+    streams::print_line(to, b"", b"# ", text)
 }
 
-fn main() {
-    let a = patches::run(true);
-    let b = units::run(a);
-    let c = plans::run(b);
-    let d = lfos::run(c);
-    let e = voices::run(d);
-    texts::run(e);
+fn main(rt: HostRuntime) {
+    let to = Streams {
+        out: rt.stdout(),
+        err: rt.stderr(),
+    };
+    let a = patches::run(to, true);
+    let b = units::run(to, a);
+    let c = plans::run(to, b);
+    let d = lfos::run(to, c);
+    let e = voices::run(to, d);
+    texts::run(to, e);
 }

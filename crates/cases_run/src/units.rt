@@ -2,17 +2,18 @@
 // parameter.
 use crate::heading;
 use dx_units::{Converted, Level};
+use streams::Streams;
 
 // The end of a line, which begins with what was given.
-fn end(line: &mut [u8], at: usize) -> bool {
+fn end(to: Streams, line: &mut [u8], at: usize) -> bool {
     let n = streams::put(line, at, b"\n");
-    streams::write(line, n)
+    streams::write(to, line, n)
 }
 
-fn end_refused(line: &mut [u8], at: usize, number: u8) -> bool {
+fn end_refused(to: Streams, line: &mut [u8], at: usize, number: u8) -> bool {
     let a = streams::put(line, at, b" is refused with ");
     let b = streams::put_decimal(line, a, number as u64);
-    end(line, b)
+    end(to, line, b)
 }
 
 fn put_sign(line: &mut [u8], at: usize, x: f32) -> usize {
@@ -33,49 +34,49 @@ fn put_millionths(line: &mut [u8], at: usize, x: f32) -> usize {
     streams::put(line, b, b" millionths")
 }
 
-fn end_answer(line: &mut [u8], at: usize, answer: Converted) -> bool {
+fn end_answer(to: Streams, line: &mut [u8], at: usize, answer: Converted) -> bool {
     match answer {
         Converted::Value(x) => {
             let a = streams::put(line, at, b" is ");
             let b = put_millionths(line, a, x);
-            end(line, b)
+            end(to, line, b)
         }
-        Converted::Refused(number) => end_refused(line, at, number),
+        Converted::Refused(number) => end_refused(to, line, at, number),
     }
 }
 
-fn end_level(line: &mut [u8], at: usize, answer: Level) -> bool {
+fn end_level(to: Streams, line: &mut [u8], at: usize, answer: Level) -> bool {
     match answer {
         Level::Value(v) => {
             let a = streams::put(line, at, b" is ");
             let b = streams::put_decimal(line, a, v as u64);
-            end(line, b)
+            end(to, line, b)
         }
-        Level::Refused(number) => end_refused(line, at, number),
+        Level::Refused(number) => end_refused(to, line, at, number),
     }
 }
 
-fn level(going: bool, n: u8) -> bool {
+fn level(to: Streams, going: bool, n: u8) -> bool {
     if !going {
         return false;
     }
     let mut line = [0u8; 128];
     let a = streams::put(&mut line, 0, b"level ");
     let b = streams::put_decimal(&mut line, a, n as u64);
-    end_level(&mut line, b, dx_units::operator_level(n))
+    end_level(to, &mut line, b, dx_units::operator_level(n))
 }
 
-fn octaves(going: bool, n: u8) -> bool {
+fn octaves(to: Streams, going: bool, n: u8) -> bool {
     if !going {
         return false;
     }
     let mut line = [0u8; 128];
     let a = streams::put(&mut line, 0, b"pitch level ");
     let b = streams::put_decimal(&mut line, a, n as u64);
-    end_answer(&mut line, b, dx_units::pitch_envelope_level(n))
+    end_answer(to, &mut line, b, dx_units::pitch_envelope_level(n))
 }
 
-fn scaling(going: bool, n: u8, note: f32) -> bool {
+fn scaling(to: Streams, going: bool, n: u8, note: f32) -> bool {
     if !going {
         return false;
     }
@@ -84,23 +85,23 @@ fn scaling(going: bool, n: u8, note: f32) -> bool {
     let b = streams::put_decimal(&mut line, a, n as u64);
     let c = streams::put(&mut line, b, b" at note ");
     let d = put_millionths(&mut line, c, note);
-    end_answer(&mut line, d, dx_units::rate_scaling(note, n))
+    end_answer(to, &mut line, d, dx_units::rate_scaling(note, n))
 }
 
-fn scalings(going: bool) -> bool {
+fn scalings(to: Streams, going: bool) -> bool {
     let nan = 0.0 / 0.0;
-    let a = scaling(going, 0, 127.0);
-    let b = scaling(a, 0, 127.5);
-    let c = scaling(b, 0, nan);
-    scaling(c, 8, nan)
+    let a = scaling(to, going, 0, 127.0);
+    let b = scaling(to, a, 0, 127.5);
+    let c = scaling(to, b, 0, nan);
+    scaling(to, c, 8, nan)
 }
 
-pub fn run(going: bool) -> bool {
-    let a = heading(going, b"conversions");
-    let b = level(a, 99);
-    let c = level(b, 100);
-    let d = octaves(c, 18);
-    let e = octaves(d, 50);
-    let f = octaves(e, 82);
-    scalings(f)
+pub fn run(to: Streams, going: bool) -> bool {
+    let a = heading(to, going, b"conversions");
+    let b = level(to, a, 99);
+    let c = level(to, b, 100);
+    let d = octaves(to, c, 18);
+    let e = octaves(to, d, 50);
+    let f = octaves(to, e, 82);
+    scalings(to, f)
 }

@@ -2,6 +2,7 @@
 use crate::{heading, line};
 use dx_units_step::{Mark, Marked};
 use patch::Patch;
+use streams::Streams;
 use voice::Voice;
 use voice_render::{Rendered, VoiceParameters};
 
@@ -50,48 +51,50 @@ fn high() -> Voice {
     loaded(&packed)
 }
 
-fn started(going: bool, text: &[u8], operators: usize, sample_rate: f32) -> bool {
+fn started(to: Streams, going: bool, text: &[u8], operators: usize, sample_rate: f32) -> bool {
     line(
+        to,
         going,
         text,
         voice::init(operators, sample_rate).number as u64,
     )
 }
 
-fn starts(going: bool) -> bool {
-    let a = started(going, b"six operators at 48000: ", 6, 48000.0);
-    let b = started(a, b"five operators at 7999: ", 5, 7999.0);
-    started(b, b"six operators at 7999: ", 6, 7999.0)
+fn starts(to: Streams, going: bool) -> bool {
+    let a = started(to, going, b"six operators at 48000: ", 6, 48000.0);
+    let b = started(to, a, b"five operators at 7999: ", 5, 7999.0);
+    started(to, b, b"six operators at 7999: ", 6, 7999.0)
 }
 
 // The easy slip: a blank block does not record the gate.
-fn gates(going: bool) -> bool {
+fn gates(to: Streams, going: bool) -> bool {
     let mut block = [0.0f32; 8];
     let blank = voice_render::render(dirty(), parameters(60.0), &mut block);
     let v = blank.voice;
     let sounding = voice_render::render(v, parameters(60.0), &mut block);
     let w = sounding.voice;
-    let a = line(going, b"gate after a blank block: ", v.gate as u64);
-    line(a, b"gate after a sounding block: ", w.gate as u64)
+    let a = line(to, going, b"gate after a blank block: ", v.gate as u64);
+    line(to, a, b"gate after a sounding block: ", w.gate as u64)
 }
 
-fn rendered(going: bool, text: &[u8], note: f32, block: &mut [f32]) -> bool {
+fn rendered(to: Streams, going: bool, text: &[u8], note: f32, block: &mut [f32]) -> bool {
     line(
+        to,
         going,
         text,
         voice_render::render(dirty(), parameters(note), block).number as u64,
     )
 }
 
-fn blocks(going: bool) -> bool {
+fn blocks(to: Streams, going: bool) -> bool {
     let mut two = [0.0f32; 2];
     let mut five = [0.0f32; 5];
     let mut most = [0.0f32; 4096];
     let mut more = [0.0f32; 4100];
-    let a = rendered(going, b"block of no numbers: ", 60.0, &mut two[..0]);
-    let b = rendered(a, b"block of 5 numbers: ", 60.0, &mut five);
-    let c = rendered(b, b"block of 4096 numbers: ", 60.0, &mut most);
-    rendered(c, b"block of 4100 numbers: ", 60.0, &mut more)
+    let a = rendered(to, going, b"block of no numbers: ", 60.0, &mut two[..0]);
+    let b = rendered(to, a, b"block of 5 numbers: ", 60.0, &mut five);
+    let c = rendered(to, b, b"block of 4096 numbers: ", 60.0, &mut most);
+    rendered(to, c, b"block of 4100 numbers: ", 60.0, &mut more)
 }
 
 // A mark's digit: 0 as asked, 1 held at the top, 2 held at zero.
@@ -104,7 +107,7 @@ fn digit(m: Marked) -> u8 {
     }
 }
 
-fn marked(going: bool, text: &[u8], r: Rendered) -> bool {
+fn marked(to: Streams, going: bool, text: &[u8], r: Rendered) -> bool {
     if !going {
         return false;
     }
@@ -117,21 +120,21 @@ fn marked(going: bool, text: &[u8], r: Rendered) -> bool {
         digit(m[4]),
         digit(m[5]),
     ];
-    streams::print_line(b"", text, &digits)
+    streams::print_line(to, b"", text, &digits)
 }
 
 // At note 100 and 48,000 Hz 31 times the frequency is above half the sample rate.
-fn marks(going: bool) -> bool {
+fn marks(to: Streams, going: bool) -> bool {
     let mut block = [0.0f32; 8];
     let blank = voice_render::render(high(), parameters(100.0), &mut block);
     let v = blank.voice;
-    let a = marked(going, b"marks of a blank block: ", blank);
+    let a = marked(to, going, b"marks of a blank block: ", blank);
     let sounding = voice_render::render(v, parameters(100.0), &mut block);
-    let b = marked(a, b"marks of a sounding block: ", sounding);
+    let b = marked(to, a, b"marks of a sounding block: ", sounding);
     let refused = voice_render::render(v, parameters(128.0), &mut block);
-    let c = marked(b, b"marks of a refused block: ", refused);
+    let c = marked(to, b, b"marks of a refused block: ", refused);
     let empty = voice_render::render(v, parameters(100.0), &mut block[..0]);
-    marked(c, b"marks of an empty block: ", empty)
+    marked(to, c, b"marks of an empty block: ", empty)
 }
 
 // A voice whose patch has a transpose, its switch on or off.
@@ -144,19 +147,20 @@ fn transposing(transpose: u8, on: bool) -> Voice {
 }
 
 // The note that a voice has after a blank block and a sounding one.
-fn played(going: bool, text: &[u8], v: Voice, note: f32) -> bool {
+fn played(to: Streams, going: bool, text: &[u8], v: Voice, note: f32) -> bool {
     let mut block = [0.0f32; 8];
     let blank = voice_render::render(v, parameters(note), &mut block);
     let w = blank.voice;
     let sounding = voice_render::render(w, parameters(note), &mut block);
     let x = sounding.voice;
-    line(going, text, numbers::f32_as_u32(x.note) as u64)
+    line(to, going, text, numbers::f32_as_u32(x.note) as u64)
 }
 
 // The number of a blank block.
-fn asked(going: bool, text: &[u8], v: Voice, note: f32) -> bool {
+fn asked(to: Streams, going: bool, text: &[u8], v: Voice, note: f32) -> bool {
     let mut block = [0.0f32; 8];
     line(
+        to,
         going,
         text,
         voice_render::render(v, parameters(note), &mut block).number as u64,
@@ -164,61 +168,71 @@ fn asked(going: bool, text: &[u8], v: Voice, note: f32) -> bool {
 }
 
 // The shifted note at the ends of its range, and one step beyond each.
-fn transposes(going: bool) -> bool {
+fn transposes(to: Streams, going: bool) -> bool {
     let low = transposing(0, true);
     let high = transposing(48, true);
     let taken = voice::take_patch(high);
     let none = taken.voice;
     let a = played(
+        to,
         going,
         b"transpose 36, switch off, note 60 plays: ",
         transposing(36, false),
         60.0,
     );
     let b = played(
+        to,
         a,
         b"transpose 36, switch on, note 60 plays: ",
         transposing(36, true),
         60.0,
     );
-    let c = asked(b, b"transpose 0, switch on, note 24: ", low, 24.0);
+    let c = asked(to, b, b"transpose 0, switch on, note 24: ", low, 24.0);
     let d = asked(
+        to,
         c,
         b"transpose 0, switch on, note 23.999998: ",
         low,
         23.999998,
     );
-    let e = asked(d, b"transpose 48, switch on, note 103: ", high, 103.0);
+    let e = asked(to, d, b"transpose 48, switch on, note 103: ", high, 103.0);
     let f = asked(
+        to,
         e,
         b"transpose 48, switch on, note 103.00001: ",
         high,
         103.00001,
     );
-    asked(f, b"no patch, switch on, note 103.00001: ", none, 103.00001)
+    asked(
+        to,
+        f,
+        b"no patch, switch on, note 103.00001: ",
+        none,
+        103.00001,
+    )
 }
 
-fn taken_out(going: bool, text: &[u8], v: Voice) -> bool {
-    line(going, text, voice::take_patch(v).number as u64)
+fn taken_out(to: Streams, going: bool, text: &[u8], v: Voice) -> bool {
+    line(to, going, text, voice::take_patch(v).number as u64)
 }
 
-fn refusals(going: bool) -> bool {
+fn refusals(to: Streams, going: bool) -> bool {
     let mut block = [0.0f32; 8];
     let v = dirty();
     let mut clean = v;
     clean.has_patch = false;
     clean.dirty = false;
-    let a = rendered(going, b"note 128: ", 128.0, &mut block);
-    let b = taken_out(a, b"taking the patch out: ", v);
-    taken_out(b, b"clean without a patch: ", clean)
+    let a = rendered(to, going, b"note 128: ", 128.0, &mut block);
+    let b = taken_out(to, a, b"taking the patch out: ", v);
+    taken_out(to, b, b"clean without a patch: ", clean)
 }
 
-pub fn run(going: bool) -> bool {
-    let a = heading(going, b"voices");
-    let b = starts(a);
-    let c = gates(b);
-    let d = blocks(c);
-    let e = marks(d);
-    let f = transposes(e);
-    refusals(f)
+pub fn run(to: Streams, going: bool) -> bool {
+    let a = heading(to, going, b"voices");
+    let b = starts(to, a);
+    let c = gates(to, b);
+    let d = blocks(to, c);
+    let e = marks(to, d);
+    let f = transposes(to, e);
+    refusals(to, f)
 }

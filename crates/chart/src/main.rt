@@ -5,38 +5,45 @@
 
 ghost use Rattle.std.specs.Prelude.{◌<◌};
 
+use streams::Streams;
+
 // A line of text, if every line before it was written; the answer says whether this one was.
-fn line(going: bool, text: &[u8]) -> bool {
+fn line(to: Streams, going: bool, text: &[u8]) -> bool {
     if !going {
         return false;
     }
-    streams::print_line(b"", text, b"")
+    streams::print_line(to, b"", text, b"")
 }
 
-fn print_words() -> bool {
-    let a = line(true, b"# The level chart");
-    let b = line(a, b"");
+fn print_words(to: Streams) -> bool {
+    let a = line(to, true, b"# The level chart");
+    let b = line(to, a, b"");
     let c = line(
+        to,
         b,
         b"The level of an operator, or of a stage of its envelope, from 0 to 99, in steps of 0.75 dB: 0 is the softest",
     );
     let d = line(
+        to,
         c,
         b"and 127 the loudest. A row's level and a column's are added: level 47, in row 40 under +7, has 75 steps.",
     );
     let e = line(
+        to,
         d,
         b"`./run chart` prints this page from the numbers in which the engine looks a level up.",
     );
-    line(e, b"")
+    line(to, e, b"")
 }
 
-fn print_columns(going: bool) -> bool {
+fn print_columns(to: Streams, going: bool) -> bool {
     let a = line(
+        to,
         going,
         b"| level |  +0 |  +1 |  +2 |  +3 |  +4 |  +5 |  +6 |  +7 |  +8 |  +9 |",
     );
     line(
+        to,
         a,
         b"|------:|----:|----:|----:|----:|----:|----:|----:|----:|----:|----:|",
     )
@@ -64,29 +71,29 @@ fn put_cell(text: &mut [u8], at: usize, n: u8) -> usize {
 }
 
 // A row: the first of its levels, and the steps of all ten.
-fn print_row(chart: &[u8; 100], row: usize) -> bool
+fn print_row(to: Streams, chart: &[u8; 100], row: usize) -> bool
     requires { row < 10 }
 {
     let mut text = [0u8; 80];
     let start = streams::put(&mut text, 0, b"|   ");
     let mut at = put_number(&mut text, start, (row * 10) as u8);
-    let mut ones = 0usize;
-    while ones < 10 {
+    for ones in 0..10usize {
         at = put_cell(&mut text, at, chart[row * 10 + ones]);
-        ones += 1;
     }
     let n = streams::put(&mut text, at, b" |\n");
-    streams::write(&text, n)
+    streams::write(to, &text, n)
 }
 
-fn main() {
+fn main(rt: HostRuntime) {
+    let to = Streams {
+        out: rt.stdout(),
+        err: rt.stderr(),
+    };
     let chart = dx_units_inner::level_chart();
-    let mut going = print_columns(print_words());
-    let mut row = 0usize;
-    while row < 10 {
+    let mut going = print_columns(to, print_words(to));
+    for row in 0..10usize {
         if going {
-            going = print_row(&chart, row);
+            going = print_row(to, &chart, row);
         }
-        row += 1;
     }
 }

@@ -3,7 +3,9 @@ ghost use Rattle.std.specs.Prelude.{◌≡◌, ◌<◌, ◌≤◌, length};
 
 use crate::messages::Found;
 use crate::{lines, messages};
-use streams::Window;
+use std::io;
+use std::io::Read;
+use streams::{Streams, Window};
 
 // A dump of 32 patches and a byte more: with as many waiting, a dump is seen whole, and whether it is all.
 const NEEDED: usize = 4105;
@@ -13,50 +15,63 @@ fn is_short(w: Window) -> bool {
     if w.ended {
         return false;
     }
-    std::num::wrapping_sub_usize(w.end, w.at) < NEEDED
+    w.end.wrapping_sub(w.at) < NEEDED
 }
 
 // That a read failed.
-fn tell_unread(name: &[u8]) {
+fn tell_unread(to: Streams, name: &[u8], error: &io::Error) {
     if name.len() == 0 {
-        streams::tell_why(name, b"standard input");
+        streams::fail(to, b"standard input", error);
         return;
     }
-    streams::tell_why(name, b"cannot be read");
+    streams::tell_why(to, name, b"cannot be read", error);
 }
 
-// One read more. That it failed is told.
-fn filled(fd: i32, name: &[u8], buffer: &mut [u8], w: Window) -> Window {
-    let r = streams::refill(fd, buffer, w);
-    if r.failed {
-        tell_unread(name);
+// One read more. One that failed is told, and gives no window.
+fn filled<R: Read>(
+    from: &mut R,
+    to: Streams,
+    name: &[u8],
+    buffer: &mut [u8],
+    w: Window,
+) -> Option<Window> {
+    match streams::refill(from, buffer, w) {
+        Ok(more) => Some(more),
+        Err(error) => {
+            tell_unread(to, name, &error);
+            None
+        }
     }
-    r
 }
 
-// The window at a file's start. Nothing says that a file ends, so the turns of this and of the other loops over files
-// are counted down, from a number that no run uses up.
-pub fn begin(fd: i32, name: &[u8], buffer: &mut [u8]) -> Window {
+// The window at a file's start; none where a read failed. Nothing says that a file ends, so the turns of this and of
+// the other loops over files are counted, up to a number that no run comes to.
+pub fn begin<R: Read>(from: &mut R, to: Streams, name: &[u8], buffer: &mut [u8]) -> Option<Window> {
     let mut w = streams::closed();
-    let mut turns = u64::MAX;
-    while turns > 0 && is_short(w) {
-        w = filled(fd, name, buffer, w);
-        turns -= 1;
+    for _ in 0..u64::MAX {
+        if !is_short(w) {
+            break;
+        }
+        w = filled(from, to, name, buffer, w)?;
     }
-    w
+    Some(w)
 }
 
 // Whether there was more to read.
-fn read_on(fd: i32) -> bool {
-    let mut rest = io::buffer();
-    io::read_full(fd, &mut rest) == 4096
+fn read_on<R: Read>(from: &mut R) -> bool {
+    let mut rest = [0u8; 4096];
+    match streams::read_full(from, &mut rest) {
+        Ok(n) => n == 4096,
+        Err(_) => false,
+    }
 }
 
-// Reads to the end.
-pub fn drain(fd: i32) {
-    let mut turns = u64::MAX;
-    while turns > 0 && read_on(fd) {
-        turns -= 1;
+// Reads to the end, or up to a read that fails.
+pub fn drain<R: Read>(from: &mut R) {
+    for _ in 0..u64::MAX {
+        if !read_on(from) {
+            return;
+        }
     }
 }
 
@@ -76,16 +91,15 @@ struct Walk {
 // The walk at a later byte of the window.
 fn moved(w: Walk, to: usize, inside: bool, stray: u64) -> Walk {
     let from = w.window;
-    let size = std::num::wrapping_sub_usize(to, from.at);
+    let size = to.wrapping_sub(from.at);
     let window = Window {
         at: to,
         end: from.end,
         ended: from.ended,
-        failed: from.failed,
     };
     Walk {
         window,
-        place: std::num::wrapping_add_u64(w.place, size as u64),
+        place: w.place.wrapping_add(size as u64),
         inside,
         stray,
         over: w.over,
@@ -93,14 +107,14 @@ fn moved(w: Walk, to: usize, inside: bool, stray: u64) -> Walk {
     }
 }
 
-fn tell_stray(name: &[u8], w: Walk) {
-    lines::tell_stray(name, std::num::wrapping_sub_u64(w.place, w.stray), w.stray);
+fn tell_stray(to: Streams, name: &[u8], w: Walk) {
+    lines::tell_stray(to, name, w.place.wrapping_sub(w.stray), w.stray);
 }
 
 // The end of a file.
-fn finish(name: &[u8], w: Walk) -> Walk {
+fn finish(to: Streams, name: &[u8], w: Walk) -> Walk {
     if w.stray > 0 {
-        tell_stray(name, w);
+        tell_stray(to, name, w);
     }
     let mut done = w;
     done.over = true;
@@ -114,15 +128,15 @@ fn pass_message(bytes: &[u8], at: usize, w: Walk) -> Walk
     moved(w, cut.end, !cut.over, 0)
 }
 
-fn pass_stray(name: &[u8], bytes: &[u8], at: usize, w: Walk) -> Walk
+fn pass_stray(to: Streams, name: &[u8], bytes: &[u8], at: usize, w: Walk) -> Walk
     requires { at ≤ length bytes.now }
 {
     let cut = messages::stray_end(bytes, at);
-    let size = std::num::wrapping_sub_usize(cut.end, at);
-    let stray = std::num::wrapping_add_u64(w.stray, size as u64);
+    let size = cut.end.wrapping_sub(at);
+    let stray = w.stray.wrapping_add(size as u64);
     let passed = moved(w, cut.end, false, stray);
     if cut.over {
-        tell_stray(name, passed);
+        tell_stray(to, name, passed);
         return moved(passed, cut.end, false, 0);
     }
     passed
@@ -135,76 +149,83 @@ fn behind(w: Walk, to: usize, written: bool) -> Walk {
     passed
 }
 
-fn pass_bank(name: &[u8], bytes: &[u8], at: usize, w: Walk) -> Walk
+fn pass_bank(to: Streams, name: &[u8], bytes: &[u8], at: usize, w: Walk) -> Walk
     requires { at ≤ length bytes.now }
 {
     let dump = messages::dump(bytes, at, bank::DUMP_SIZE);
-    let written = lines::print_dump(name, dump, w.place);
-    behind(w, std::num::wrapping_add_usize(at, dump.len()), written)
+    let written = lines::print_dump(to, name, dump, w.place);
+    behind(w, at.wrapping_add(dump.len()), written)
 }
 
-fn pass_single(name: &[u8], bytes: &[u8], at: usize, w: Walk) -> Walk
+fn pass_single(to: Streams, name: &[u8], bytes: &[u8], at: usize, w: Walk) -> Walk
     requires { at ≤ length bytes.now }
 {
     let dump = messages::dump(bytes, at, single::DUMP_SIZE);
-    let written = lines::print_single(name, dump, w.place);
-    behind(w, std::num::wrapping_add_usize(at, dump.len()), written)
+    let written = lines::print_single(to, name, dump, w.place);
+    behind(w, at.wrapping_add(dump.len()), written)
 }
 
 // A message that is no dump has the wrong length for one.
-fn refuse_message(name: &[u8], at: usize, w: Walk) -> Walk {
-    lines::tell_refusal_at(name, 10, w.place);
-    moved(w, std::num::wrapping_add_usize(at, 1), true, 0)
+fn refuse_message(to: Streams, name: &[u8], at: usize, w: Walk) -> Walk {
+    lines::tell_refusal_at(to, name, 10, w.place);
+    moved(w, at.wrapping_add(1), true, 0)
 }
 
 // What begins at the first byte that waits.
-fn pass_next(name: &[u8], bytes: &[u8], at: usize, w: Walk) -> Walk
+fn pass_next(to: Streams, name: &[u8], bytes: &[u8], at: usize, w: Walk) -> Walk
     requires { at < length bytes.now }
 {
     match messages::beginning(bytes, at) {
-        Found::Bank => pass_bank(name, bytes, at, w),
-        Found::Single => pass_single(name, bytes, at, w),
-        Found::Message => refuse_message(name, at, w),
-        Found::Nothing => pass_stray(name, bytes, at, w),
+        Found::Bank => pass_bank(to, name, bytes, at, w),
+        Found::Single => pass_single(to, name, bytes, at, w),
+        Found::Message => refuse_message(to, name, at, w),
+        Found::Nothing => pass_stray(to, name, bytes, at, w),
     }
 }
 
 // One step through the bytes up to the window's end.
-fn step(name: &[u8], bytes: &[u8], w: Walk) -> Walk {
+fn step(to: Streams, name: &[u8], bytes: &[u8], w: Walk) -> Walk {
     let window = w.window;
     let at = window.at;
     if bytes.len() <= at {
-        return finish(name, w);
+        return finish(to, name, w);
     }
     if w.inside {
         return pass_message(bytes, at, w);
     }
     if w.stray > 0 {
-        return pass_stray(name, bytes, at, w);
+        return pass_stray(to, name, bytes, at, w);
     }
-    pass_next(name, bytes, at, w)
+    pass_next(to, name, bytes, at, w)
 }
 
 // A read where the window is short, or else a step.
-fn turn(fd: i32, name: &[u8], buffer: &mut [u8], w: Walk) -> Walk {
+fn turn<R: Read>(from: &mut R, to: Streams, name: &[u8], buffer: &mut [u8], w: Walk) -> Walk {
     let window = w.window;
     if is_short(window) {
-        let more = filled(fd, name, buffer, window);
-        return Walk {
-            window: more,
-            place: w.place,
-            inside: w.inside,
-            stray: w.stray,
-            over: more.failed,
-            written: w.written,
-        };
+        return read_more(from, to, name, buffer, w);
     }
-    let start = 0usize;
     let end = streams::least(window.end, buffer.len());
-    step(name, &buffer[start..end], w)
+    step(to, name, &buffer[..end], w)
 }
 
-fn print_messages(fd: i32, name: &[u8], buffer: &mut [u8], window: Window) -> bool {
+// The walk after one read more. It is over where that failed.
+fn read_more<R: Read>(from: &mut R, to: Streams, name: &[u8], buffer: &mut [u8], w: Walk) -> Walk {
+    let mut later = w;
+    match filled(from, to, name, buffer, w.window) {
+        Some(more) => later.window = more,
+        None => later.over = true,
+    }
+    later
+}
+
+fn print_messages<R: Read>(
+    from: &mut R,
+    to: Streams,
+    name: &[u8],
+    buffer: &mut [u8],
+    window: Window,
+) -> bool {
     let mut w = Walk {
         window,
         place: 0,
@@ -213,10 +234,11 @@ fn print_messages(fd: i32, name: &[u8], buffer: &mut [u8], window: Window) -> bo
         over: false,
         written: true,
     };
-    let mut turns = u64::MAX;
-    while turns > 0 && w.written && !w.over {
-        w = turn(fd, name, buffer, w);
-        turns -= 1;
+    for _ in 0..u64::MAX {
+        if !w.written || w.over {
+            break;
+        }
+        w = turn(from, to, name, buffer, w);
     }
     w.written
 }
@@ -227,15 +249,13 @@ fn is_whole(size: usize) -> bool {
 }
 
 // The lines of a file. The answer says whether every line could be written.
-pub fn print_file(fd: i32, name: &[u8]) -> bool {
-    let mut buffer = io::large_buffer();
-    let w = begin(fd, name, &mut buffer);
-    if w.failed {
+pub fn print_file<R: Read>(from: &mut R, to: Streams, name: &[u8]) -> bool {
+    let mut buffer = [0u8; 65536];
+    let Some(w) = begin(from, to, name, &mut buffer) else {
         return true;
+    };
+    if w.ended & is_whole(w.end.wrapping_sub(w.at)) {
+        return lines::print_whole(to, name, streams::waiting(&buffer, w));
     }
-    let size = std::num::wrapping_sub_usize(w.end, w.at);
-    if w.ended & is_whole(size) {
-        return lines::print_whole(name, streams::waiting(&buffer, w));
-    }
-    print_messages(fd, name, &mut buffer, w)
+    print_messages(from, to, name, &mut buffer, w)
 }

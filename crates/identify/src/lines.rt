@@ -2,99 +2,97 @@
 ghost use Rattle.std.specs.Prelude.{◌≡◌, length};
 
 use patch::Patch;
+use streams::Streams;
 
-fn print_identifier(name: &[u8], head: &[u8], identifier: u64) -> bool {
+fn print_identifier(to: Streams, name: &[u8], head: &[u8], identifier: u64) -> bool {
     let mut digits = [0u8; 16];
-    let k = io::hex(identifier, 16, &mut digits);
-    streams::print_line(name, head, &digits[..k])
+    let k = streams::hex(identifier, 16, &mut digits);
+    streams::print_line(to, name, head, &digits[..k])
 }
 
 // The line of a slot's patch. The answer says whether to go on.
-fn print_patch(name: &[u8], slot: usize, patch: Patch) -> bool {
+fn print_patch(to: Streams, name: &[u8], slot: usize, patch: Patch) -> bool {
     let letters = patch.name;
     let columns = streams::patch_columns(slot, letters);
     let r = identity::identify(patch);
     if r.number != 0 {
-        streams::tell_refusal(name, &columns, r.number);
+        streams::tell_refusal(to, name, &columns, r.number);
         return true;
     }
-    print_identifier(name, &columns, r.identifier)
+    print_identifier(to, name, &columns, r.identifier)
 }
 
 // The line of a packed patch.
-fn print_packed(name: &[u8], slot: usize, bytes: &[u8]) -> bool {
+fn print_packed(to: Streams, name: &[u8], slot: usize, bytes: &[u8]) -> bool {
     let read = patch::unpack(Patch::new(), bytes);
     let patch = read.patch;
-    print_patch(name, slot, patch)
+    print_patch(to, name, slot, patch)
 }
 
-fn print_bank(name: &[u8], dump: &[u8]) -> bool
+fn print_bank(to: Streams, name: &[u8], dump: &[u8]) -> bool
     requires { length dump.now ≡ 4104 }
 {
-    let mut slot = 0usize;
-    while slot < 32 {
-        if !print_packed(name, slot, bank::slot_part(dump, slot)) {
+    for slot in 0..32usize {
+        if !print_packed(to, name, slot, bank::slot_part(dump, slot)) {
             return false;
         }
-        slot += 1;
     }
     true
 }
 
 // The refusal of what begins at a place of a file; standard input has no places.
-pub fn tell_refusal_at(name: &[u8], number: u8, place: u64) {
+pub fn tell_refusal_at(to: Streams, name: &[u8], number: u8, place: u64) {
     if name.len() == 0 {
-        streams::tell_refusal(name, b"", number);
+        streams::tell_refusal(to, name, b"", number);
         return;
     }
-    streams::tell_refusal_at(name, number, b", at byte ", place);
+    streams::tell_refusal_at(to, name, number, b", at byte ", place);
 }
 
 // Bytes of a file that begin no dump: the place of the first, and how many there are.
-pub fn tell_stray(name: &[u8], place: u64, count: u64) {
+pub fn tell_stray(to: Streams, name: &[u8], place: u64, count: u64) {
     let mut text = [0u8; 96];
     let a = streams::put(&mut text, 0, b"no dump begins at byte ");
     let b = streams::put_decimal(&mut text, a, place);
     let c = streams::put(&mut text, b, b", bytes passed over: ");
     let mut digits = [0u8; 20];
-    let k = io::decimal(count, &mut digits);
-    let start = 0usize;
+    let k = streams::decimal(count, &mut digits);
     let end = streams::least(c, 96);
-    streams::tell_line(name, &text[start..end], &digits[..k]);
+    streams::tell_line(to, name, &text[..end], &digits[..k]);
 }
 
 // The lines of a dump that begins at a place, which is validated once.
-pub fn print_dump(name: &[u8], dump: &[u8], place: u64) -> bool {
+pub fn print_dump(to: Streams, name: &[u8], dump: &[u8], place: u64) -> bool {
     let number = bank::validate(dump);
     if number != 0 {
-        tell_refusal_at(name, number, place);
+        tell_refusal_at(to, name, number, place);
         return true;
     }
-    print_bank(name, dump)
+    print_bank(to, name, dump)
 }
 
 // The line of a single-voice dump that begins at a place.
-pub fn print_single(name: &[u8], dump: &[u8], place: u64) -> bool {
+pub fn print_single(to: Streams, name: &[u8], dump: &[u8], place: u64) -> bool {
     let read = single::read(Patch::new(), dump);
     if read.number != 0 {
-        tell_refusal_at(name, read.number, place);
+        tell_refusal_at(to, name, read.number, place);
         return true;
     }
     let patch = read.patch;
-    print_patch(name, 0, patch)
+    print_patch(to, name, 0, patch)
 }
 
 // The lines of one patch or one dump.
-pub fn print_whole(name: &[u8], bytes: &[u8]) -> bool {
+pub fn print_whole(to: Streams, name: &[u8], bytes: &[u8]) -> bool {
     if bytes.len() < patch::SYX_SIZE {
-        streams::tell_refusal(name, b"", 1);
+        streams::tell_refusal(to, name, b"", 1);
         return true;
     }
     if bytes.len() == patch::SYX_SIZE {
-        return print_packed(name, 0, bytes);
+        return print_packed(to, name, 0, bytes);
     }
     if bytes.len() == single::DUMP_SIZE {
-        return print_single(name, bytes, 0);
+        return print_single(to, name, bytes, 0);
     }
-    print_dump(name, bytes, 0)
+    print_dump(to, name, bytes, 0)
 }

@@ -4,7 +4,11 @@
 // read has a line on standard error. docs/PROGRAMS.md has both.
 #![tactic(auto)]
 
-use libc::STDIN_FILENO;
+use std::env::FillError;
+use std::io::Stdin;
+use std::rt::{Env, Files};
+use std::{fs, io};
+use streams::Streams;
 
 mod files;
 mod lines;
@@ -12,52 +16,72 @@ mod messages;
 
 // Standard input holds one patch or one dump: what is longer is read to its end and has the wrong length however long
 // it is.
-fn standard_input() {
-    let mut buffer = io::large_buffer();
+fn standard_input(from: &mut Stdin, to: Streams) {
+    let mut buffer = [0u8; 65536];
     let no_name = b"";
-    let w = files::begin(STDIN_FILENO, no_name, &mut buffer);
-    if w.failed {
+    let Some(w) = files::begin(from, to, no_name, &mut buffer) else {
         return;
-    }
+    };
     if !w.ended {
-        files::drain(STDIN_FILENO);
+        files::drain(from);
     }
-    lines::print_whole(no_name, streams::waiting(&buffer, w));
+    lines::print_whole(to, no_name, streams::waiting(&buffer, w));
 }
 
-// The file of a word. The answer says whether to go on: it does not where a line could not be written.
-fn file(word: usize) -> bool {
-    let mut path = io::buffer();
-    let n = os::arg(word, &mut path);
-    if os::errno() != 0 {
-        os::fail(b"a file's name");
-        return true;
+// The file of a name. One that is no text cannot be opened.
+fn opened<R: Files>(rt: &R, name: &[u8]) -> io::Result<R::File> {
+    match str::from_utf8(name) {
+        Ok(path) => fs::open(rt, path),
+        Err(_) => Err(io::Error::from(io::ErrorKind::InvalidFilename)),
     }
-    let fd = os::open_read(&path[..n]);
-    if fd < 0 {
-        streams::tell_why(&path[..n], b"cannot be opened");
-        return true;
-    }
-    let going = files::print_file(fd, &path[..n]);
-    libc::close(fd);
-    going
 }
 
-fn each_file(words: usize) {
-    let mut word = 1usize;
-    while word < words {
-        if !file(word) {
-            return;
+// The lines of a named file. The answer says whether to go on: it does not where a line could not be written.
+fn file<R: Files>(rt: &R, to: Streams, name: &[u8]) -> bool {
+    match opened(rt, name) {
+        Ok(mut from) => files::print_file(&mut from, to, name),
+        Err(error) => {
+            streams::tell_why(to, name, b"cannot be opened", &error);
+            true
         }
-        word += 1;
     }
 }
 
-fn main() {
-    let words = os::arg_count();
-    if words < 2 {
-        standard_input();
-        return;
+// The file of each word, from the first on.
+fn each_file<R: Files + Env>(rt: &R, to: Streams) {
+    let mut path = [0u8; 4096];
+    for word in 1..usize::MAX {
+        match rt.arg(word, &mut path) {
+            Ok(n) => {
+                if !file(rt, to, &path[..n]) {
+                    return;
+                }
+            }
+            Err(FillError::TooLong) => {
+                streams::tell_line(to, b"", b"a file's name: ", b"File name too long");
+            }
+            Err(FillError::NotPresent) => return,
+        }
     }
-    each_file(words);
+}
+
+// Whether the program was given a word.
+fn has_words<R: Env>(rt: &R) -> bool {
+    let mut word = [0u8; 1];
+    match rt.arg(1, &mut word) {
+        Err(FillError::NotPresent) => false,
+        _ => true,
+    }
+}
+
+fn main(rt: HostRuntime) {
+    let to = Streams {
+        out: rt.stdout(),
+        err: rt.stderr(),
+    };
+    if has_words(&rt) {
+        each_file(&rt, to);
+    } else {
+        standard_input(&mut rt.stdin(), to);
+    }
 }

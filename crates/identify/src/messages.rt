@@ -57,8 +57,7 @@ fn place_of(bytes: &[u8], at: usize, one: u8, other: u8) -> usize
     requires { at ≤ length bytes.now }
     ensures { (at ≤ result) × (result ≤ length bytes.now) }
 {
-    let mut i = at;
-    while i < bytes.len() {
+    for i in at..bytes.len() {
         let b = bytes[i];
         if b == one {
             return i;
@@ -66,9 +65,8 @@ fn place_of(bytes: &[u8], at: usize, one: u8, other: u8) -> usize
         if b == other {
             return i;
         }
-        i += 1;
     }
-    i
+    bytes.len()
 }
 
 // Where a part of a file ends within some bytes, and whether it is over there.

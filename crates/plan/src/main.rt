@@ -3,27 +3,38 @@
 // wrong length.
 #![tactic(auto)]
 
-use libc::STDIN_FILENO;
+use streams::Streams;
 
 // The refusal in words. 3 and 4 name their operator, 2 names none.
-fn tell_if_refused(bytes: &[u8]) {
+fn tell_if_refused(to: Streams, bytes: &[u8]) {
     let p = algorithms::compile_row(bytes.len(), algorithms::six_bytes(bytes));
     if p.number == 0 {
         return;
     }
     if p.number == 2 {
-        streams::tell_refusal(b"", b"", 2);
+        streams::tell_refusal(to, b"", b"", 2);
         return;
     }
-    streams::tell_refusal_at(b"", p.number, b", at operator ", p.at as u64);
+    streams::tell_refusal_at(to, b"", p.number, b", at operator ", p.at as u64);
 }
 
-fn main() {
-    let mut bytes = [0u8; 8];
-    let got = io::read_full(STDIN_FILENO, &mut bytes);
+// The plan of a row, and in words why it is refused.
+fn print(to: Streams, row: &[u8]) {
     let mut out = [0u8; 160];
-    let n = plan_text::print(&bytes[..got], &mut out);
-    if streams::write(&out[..n], n) {
-        tell_if_refused(&bytes[..got]);
+    let n = plan_text::print(row, &mut out);
+    if streams::write(to, &out, n) {
+        tell_if_refused(to, row);
+    }
+}
+
+fn main(rt: HostRuntime) {
+    let to = Streams {
+        out: rt.stdout(),
+        err: rt.stderr(),
+    };
+    let mut bytes = [0u8; 8];
+    match streams::read_full(&mut rt.stdin(), &mut bytes) {
+        Ok(got) => print(to, &bytes[..got]),
+        Err(error) => streams::fail(to, b"standard input", &error),
     }
 }

@@ -5,8 +5,8 @@
 #![tactic(auto)]
 
 use bank_pieces::{Receiver, Taken};
-use libc::STDIN_FILENO;
-use streams::Window;
+use std::io::Stdin;
+use streams::{Streams, Window};
 
 // How far a run has come: the window over standard input, the reader of the dump, and whether it goes on.
 #[derive(Clone, Copy)]
@@ -24,81 +24,95 @@ fn name(p: &[u8; 128]) -> [u8; 10] {
 }
 
 // The line of a patch that is complete. The answer says whether to go on.
-fn print_if_complete(t: Taken, patch: &[u8; 128]) -> bool {
+fn print_if_complete(to: Streams, t: Taken, patch: &[u8; 128]) -> bool {
     if !t.complete {
         return true;
     }
     let columns = streams::patch_columns(t.slot as usize, name(patch));
-    streams::print_line(b"", &columns, b"provisional")
+    streams::print_line(to, b"", &columns, b"provisional")
 }
 
 // What waits, up to the end of the patch at hand. The reader has not ended, so it takes at least a byte.
-fn take(buffer: &[u8], patch: &mut [u8; 128], run: Run) -> Run {
+fn take(to: Streams, buffer: &[u8], patch: &mut [u8; 128], run: Run) -> Run {
     let mut window = run.window;
     let t = bank_pieces::take(run.receiver, streams::waiting(buffer, window), patch);
-    window.at = std::num::wrapping_add_usize(window.at, t.taken);
+    window.at = window.at.wrapping_add(t.taken);
     let receiver = t.receiver;
     Run {
         window,
         receiver,
-        going: print_if_complete(t, patch),
+        going: print_if_complete(to, t, patch),
     }
 }
 
 // Whether the dump was sound.
-fn say_end(receiver: Receiver) {
+fn say_end(to: Streams, receiver: Receiver) {
     let e = bank_pieces::end(receiver);
     if e.number != 0 {
-        streams::tell_refusal(b"", b"", e.number);
+        streams::tell_refusal(to, b"", b"", e.number);
         return;
     }
     let mut digits = [0u8; 20];
-    let k = io::decimal(e.channel as u64, &mut digits);
-    streams::print_line(b"", b"sound, channel ", &digits[..k]);
+    let k = streams::decimal(e.channel as u64, &mut digits);
+    streams::print_line(to, b"", b"sound, channel ", &digits[..k]);
 }
 
 // One read. A failed one is told, and where nothing more came the dump is over.
-fn read(buffer: &mut [u8], run: Run) -> Run {
-    let window = streams::refill(STDIN_FILENO, buffer, run.window);
+fn read(from: &mut Stdin, to: Streams, buffer: &mut [u8], run: Run) -> Run {
     let receiver = run.receiver;
-    if window.failed {
-        os::fail(b"standard input");
-    } else if window.ended {
-        say_end(receiver);
-    }
-    Run {
-        window,
-        receiver,
-        going: !window.ended,
+    match streams::refill(from, buffer, run.window) {
+        Ok(window) => {
+            if window.ended {
+                say_end(to, receiver);
+            }
+            Run {
+                window,
+                receiver,
+                going: !window.ended,
+            }
+        }
+        Err(error) => {
+            streams::fail(to, b"standard input", &error);
+            Run {
+                window: run.window,
+                receiver,
+                going: false,
+            }
+        }
     }
 }
 
 // A patch of what waits, or a read where nothing does.
-fn turn(buffer: &mut [u8], patch: &mut [u8; 128], run: Run) -> Run {
+fn turn(from: &mut Stdin, to: Streams, buffer: &mut [u8], patch: &mut [u8; 128], run: Run) -> Run {
     let window = run.window;
     if window.at < window.end {
-        return take(buffer, patch, run);
+        return take(to, buffer, patch, run);
     }
-    read(buffer, run)
+    read(from, to, buffer, run)
 }
 
-// Turns until the dump is over. Nothing says that the input ends, so turns are counted down, from a number that no run
-// uses up.
-fn receive(buffer: &mut [u8], patch: &mut [u8; 128]) {
+// Turns until the dump is over. Nothing says that the input ends, so turns are counted, up to a number that no run
+// comes to.
+fn receive(from: &mut Stdin, to: Streams, buffer: &mut [u8], patch: &mut [u8; 128]) {
     let mut run = Run {
         window: streams::closed(),
         receiver: bank_pieces::open(),
         going: true,
     };
-    let mut turns = u64::MAX;
-    while turns > 0 && run.going {
-        run = turn(buffer, patch, run);
-        turns -= 1;
+    for _ in 0..u64::MAX {
+        if !run.going {
+            return;
+        }
+        run = turn(from, to, buffer, patch, run);
     }
 }
 
-fn main() {
-    let mut buffer = io::buffer();
+fn main(rt: HostRuntime) {
+    let to = Streams {
+        out: rt.stdout(),
+        err: rt.stderr(),
+    };
+    let mut buffer = [0u8; 4096];
     let mut patch = [0u8; 128];
-    receive(&mut buffer, &mut patch);
+    receive(&mut rt.stdin(), to, &mut buffer, &mut patch);
 }

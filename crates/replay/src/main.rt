@@ -5,8 +5,8 @@
 
 ghost use Rattle.std.specs.Prelude.{◌≤◌, length};
 
-use libc::STDIN_FILENO;
-use streams::Window;
+use std::io::Stdin;
+use streams::{Streams, Window};
 
 mod calls;
 
@@ -51,7 +51,7 @@ fn answer_all(script: &[u8], registers: &mut [u8], answers: &mut [u8], before: u
         }
         at += streams::least(read, script.len() - at);
         put += streams::least(one.wrote, answers.len() - put);
-        calls = std::num::wrapping_add_u64(calls, 1);
+        calls = calls.wrapping_add(1);
     }
     Progress {
         at,
@@ -69,60 +69,55 @@ fn put_line(line: &mut [u8], text: &[u8], at: usize, calls: u64) -> usize {
 }
 
 // The last line of a script that ended as it should not, on both streams.
-fn say_wrong(line: &[u8], n: usize) {
-    if streams::write(line, n) {
-        streams::tell(line, n);
+fn say_wrong(to: Streams, line: &[u8], n: usize) {
+    if streams::write(to, line, n) {
+        streams::tell(to, line, n);
     }
 }
 
-fn say_ended(calls: u64) {
+fn say_ended(to: Streams, calls: u64) {
     let mut line = [0u8; 80];
     let a = streams::put(&mut line, 0, b"script ended after ");
     let b = streams::put_decimal(&mut line, a, calls);
     let c = streams::put(&mut line, b, b" calls\n");
-    streams::write(&line, c);
+    streams::write(to, &line, c);
 }
 
-fn say_cut_short(calls: u64) {
+fn say_cut_short(to: Streams, calls: u64) {
     let mut line = [0u8; 80];
     let n = put_line(
         &mut line,
         b"script cut short in call ",
         0,
-        std::num::wrapping_add_u64(calls, 1),
+        calls.wrapping_add(1),
     );
-    say_wrong(&line, n);
+    say_wrong(to, &line, n);
 }
 
-fn say_unknown(entry: u8, calls: u64) {
+fn say_unknown(to: Streams, entry: u8, calls: u64) {
     let mut line = [0u8; 80];
     let a = streams::put(&mut line, 0, b"script names unknown entry ");
     let b = streams::put_decimal(&mut line, a, entry as u64);
-    let n = put_line(
-        &mut line,
-        b" in call ",
-        b,
-        std::num::wrapping_add_u64(calls, 1),
-    );
-    say_wrong(&line, n);
+    let n = put_line(&mut line, b" in call ", b, calls.wrapping_add(1));
+    say_wrong(to, &line, n);
 }
 
 // Whether the run is over, which is then said: the next call names no entry, or nothing more was read and either
 // nothing is left or what is left is no whole call.
-fn is_over(script: &[u8], done: Progress, more: bool) -> bool {
+fn is_over(to: Streams, script: &[u8], done: Progress, more: bool) -> bool {
     if done.unknown {
-        say_unknown(judge_wire::byte(script, done.at), done.calls);
+        say_unknown(to, judge_wire::byte(script, done.at), done.calls);
         return true;
     }
     if more {
         return false;
     }
     if done.at == script.len() {
-        say_ended(done.calls);
+        say_ended(to, done.calls);
         return true;
     }
     if done.at == 0 {
-        say_cut_short(done.calls);
+        say_cut_short(to, done.calls);
         return true;
     }
     false
@@ -130,6 +125,7 @@ fn is_over(script: &[u8], done: Progress, more: bool) -> bool {
 
 // Answers the whole calls of what was read, and sends the answers.
 fn answer_window(
+    to: Streams,
     script: &[u8],
     registers: &mut [u8],
     answers: &mut [u8],
@@ -137,19 +133,18 @@ fn answer_window(
     calls: u64,
 ) -> Run {
     let done = answer_all(script, registers, answers, calls);
-    if !streams::write(answers, done.put) {
+    if !streams::write(to, answers, done.put) {
         return Run {
             window: w,
             calls,
             going: false,
         };
     }
-    let over = is_over(script, done, !w.ended);
+    let over = is_over(to, script, done, !w.ended);
     let window = Window {
         at: done.at,
         end: w.end,
         ended: w.ended,
-        failed: w.failed,
     };
     Run {
         window,
@@ -158,46 +153,68 @@ fn answer_window(
     }
 }
 
-// Reads what there is, answers its whole calls and keeps the rest.
-fn turn(script: &mut [u8], registers: &mut [u8], answers: &mut [u8], run: Run) -> Run {
-    let w = streams::refill(STDIN_FILENO, script, run.window);
-    if w.failed {
-        os::fail(b"standard input");
-        return Run {
-            window: w,
-            calls: run.calls,
-            going: false,
-        };
+// Reads what there is, answers its whole calls and keeps the rest. A read that fails is told and ends the run.
+fn turn(
+    from: &mut Stdin,
+    to: Streams,
+    script: &mut [u8],
+    registers: &mut [u8],
+    answers: &mut [u8],
+    run: Run,
+) -> Run {
+    match streams::refill(from, script, run.window) {
+        Ok(w) => {
+            let held = judge_wire::start(script, w.end);
+            answer_window(to, held, registers, answers, w, run.calls)
+        }
+        Err(error) => {
+            streams::fail(to, b"standard input", &error);
+            Run {
+                window: run.window,
+                calls: run.calls,
+                going: false,
+            }
+        }
     }
-    answer_window(
-        judge_wire::start(script, w.end),
-        registers,
-        answers,
-        w,
-        run.calls,
-    )
 }
 
-// Turns until the script is over. Nothing says that the input ends, so turns are counted down, from a number that no
-// run uses up.
-fn replay(script: &mut [u8], registers: &mut [u8], answers: &mut [u8]) {
+// Turns until the script is over. Nothing says that the input ends, so turns are counted, up to a number that no run
+// comes to.
+fn replay(
+    from: &mut Stdin,
+    to: Streams,
+    script: &mut [u8],
+    registers: &mut [u8],
+    answers: &mut [u8],
+) {
     let mut run = Run {
         window: streams::closed(),
         calls: 0,
         going: true,
     };
-    let mut turns = u64::MAX;
-    while turns > 0 && run.going {
-        run = turn(script, registers, answers, run);
-        turns -= 1;
+    for _ in 0..u64::MAX {
+        if !run.going {
+            return;
+        }
+        run = turn(from, to, script, registers, answers, run);
     }
 }
 
 // The registers at the start: all zero but the generator's number, which is the Rust's first one.
-fn main() {
-    let mut script = io::large_buffer();
-    let mut answers = io::large_buffer();
+fn main(rt: HostRuntime) {
+    let to = Streams {
+        out: rt.stdout(),
+        err: rt.stderr(),
+    };
+    let mut script = [0u8; 65536];
+    let mut answers = [0u8; 65536];
     let mut registers = [0u8; judge_wire::REGISTERS];
     judge_wire::put_word(&mut registers, judge_wire::GENERATOR as usize, 0x21);
-    replay(&mut script, &mut registers, &mut answers);
+    replay(
+        &mut rt.stdin(),
+        to,
+        &mut script,
+        &mut registers,
+        &mut answers,
+    );
 }
