@@ -1,6 +1,7 @@
 -- A test that holds of the first numbers holds of each of them: a law for each number from one computed test. Assumes
 -- nothing.
-use Rattle.std.proofs.Common.{◌≡◌, ℕ, zero, suc, ◌<◌, Bool, true, false, ◌&&◌, T, eqb, sym, refl, subst, arith, eqb-true}
+use Rattle.std.proofs.Common.{◌≡◌, ℕ, zero, suc, ◌<◌, Bool, true, false, ◌&&◌, T, eqb, sym, refl, subst, arith}
+use Rattle.std.proofs.Common.{eqb-true}
 use borrow.Author.Tests.{eqb-false}
 use lib.Ieee.Fits.{and_l, and_r}
 

@@ -1,5 +1,9 @@
 -- What the casts return, by the form of the float. Assumes nothing.
-use Rattle.std.proofs.Common.{◌≡◌, ℕ, zero, suc, ◌+◌, ◌-◌, ◌*◌, ◌/◌, ◌%◌, ◌^◌, ◌<◌, ◌≤◌, min, Bool, true, false, not, ◌&&◌, ◌||◌, T, eqb, ltb, leb, ℤ, pos, negsuc, neg_ℤ, sym, refl, ap, ◌∙◌, subst, lt_of_lt_of_le, le_of_lt, lt_irrefl, mul-le-mul_right, mul_comm, div-lt_iff_lt-mul, mul-le-mul, one-mul, pow-suc, le-div_iff_mul-le, mul-one, arith, le→leb, eqb→eq, ltb→lt, lt→ltb, pow_pos, pow_mono, ltb-false, ltb-true, eq-eqb, eqb-true}
+use Rattle.std.proofs.Common.{◌≡◌, ℕ, zero, suc, ◌+◌, ◌-◌, ◌*◌, ◌/◌, ◌%◌, ◌^◌, ◌<◌, ◌≤◌, min, Bool, true, false, not}
+use Rattle.std.proofs.Common.{◌&&◌, ◌||◌, T, eqb, ltb, leb, ℤ, pos, negsuc, neg_ℤ, sym, refl, ap, ◌∙◌, subst}
+use Rattle.std.proofs.Common.{lt_of_lt_of_le, le_of_lt, lt_irrefl, mul-le-mul_right, mul_comm, div-lt_iff_lt-mul}
+use Rattle.std.proofs.Common.{mul-le-mul, one-mul, pow-suc, le-div_iff_mul-le, mul-one, arith, le→leb, eqb→eq, ltb→lt}
+use Rattle.std.proofs.Common.{lt→ltb, pow_pos, pow_mono, ltb-false, ltb-true, eq-eqb, eqb-true}
 use mathlib.Core.Bool.{beq}
 use native.Mathlib.Nat.{div-le_of_le-mul}
 use native.Mathlib.Nat.{mod-one}
@@ -209,11 +213,19 @@ one_power (suc k) h = let p : 2 ^ suc k ≡ 2 ^ k * 2 = pow-suc 2 k in let q = p
 zero_fits : (s : Bool) (e : ℤ) → T (fits binary32 (fin s 0 e)) → e ≡ pos 0
 unfolding fits
 zero_fits s (pos k) f = ap pos (one_power k (eqb→eq (2 ^ k * 1) 1 f))
-zero_fits s (negsuc k) f = let p : 2 ^ suc k ≡ 2 ^ k * 2 = pow-suc 2 k in let q = pow_pos k in let h = eqb→eq (1 * 2 ^ suc k) 1 f in let z : ⊥ = omega arith in absurd z
+zero_fits s (negsuc k) f =
+    let p : 2 ^ suc k ≡ 2 ^ k * 2 = pow-suc 2 k in
+    let q = pow_pos k in
+    let h = eqb→eq (1 * 2 ^ suc k) 1 f in
+    absurd (omega arith)
 
 none : (n : ℕ) (e : ℤ) → eqb (n * up e * 1) (0 * 1 * down e) ≡ true → n ≡ 0
 none zero e h = refl
-none (suc n) e h = let z = eqb-true (suc n * up e * 1) (0 * 1 * down e) h in let o : 1 ≤ suc n = omega arith in let q = mul-le-mul o (up_pos e) in omega arith
+none (suc n) e h =
+    let z = eqb-true (suc n * up e * 1) (0 * 1 * down e) h in
+    let o : 1 ≤ suc n = omega arith in
+    let q = mul-le-mul o (up_pos e) in
+    omega arith
 
 pub abs_zero : (x : Float) → T (fits binary32 x) → eq x (fin false 0 (pos 0)) ≡ true → fin false 0 (pos 0) ≡ magnitude x
 unfolding eq magnitude

@@ -1,6 +1,7 @@
 -- What a rounding is: with no sign an infinity or a number with no sign, with a sign the other's negative, and never a
 -- NaN; a fraction that is at most some float is so rounded too. Assumes nothing.
-use Rattle.std.proofs.Common.{◌≡◌, ℕ, zero, suc, ◌+◌, ◌-◌, ◌*◌, ◌/◌, ◌%◌, ◌^◌, ◌<◌, ◌≤◌, Bool, true, false, cond, T, ltb, ℤ, pos, refl, subst}
+use Rattle.std.proofs.Common.{◌≡◌, ℕ, zero, suc, ◌+◌, ◌-◌, ◌*◌, ◌/◌, ◌%◌, ◌^◌, ◌<◌, ◌≤◌, Bool, true, false, cond, T}
+use Rattle.std.proofs.Common.{ltb, ℤ, pos, refl, subst}
 use Prim.Native.Nat.{compare}
 use lib.Ieee.Bits.{is_true}
 use lib.Ieee.Order.{round_mono}

@@ -1,5 +1,6 @@
 -- The 32 bits of a signed number, and the signed number of 32 bits. Assumes nothing.
-use Rattle.std.proofs.Common.{◌≡◌, ℕ, zero, suc, ◌-◌, ◌^◌, ◌<◌, ◌≤◌, true, false, T, ℤ, pos, negsuc, ◌-ℤ◌, nat_abs, sym, refl, ap, ◌∙◌, subst, arith, w32, Fits, to_z, of_z, le-ltb, le-leb}
+use Rattle.std.proofs.Common.{◌≡◌, ℕ, zero, suc, ◌-◌, ◌^◌, ◌<◌, ◌≤◌, true, false, T, ℤ, pos, negsuc, ◌-ℤ◌, nat_abs, sym}
+use Rattle.std.proofs.Common.{refl, ap, ◌∙◌, subst, arith, w32, Fits, to_z, of_z, le-ltb, le-leb}
 use lib.Signed.{mag, le_z, non_neg}
 use mir.ValLaws.{to_z-of_z, to_z_pos}
 
@@ -36,7 +37,8 @@ minus_one (suc n) = ap negsuc (omega arith)
 
 -- -1 minus what b lacks to 2 ^ 32 - 1, for a b whose highest bit is set
 pub lifted : (b : ℕ) → 2 ^ 31 ≤ b → b < 2 ^ 32 → negsuc 0 -ℤ to_z w32 (4294967295 - b) ≡ to_z w32 b
-lifted b l h = rw (to_z_pos w32 (4294967295 - b) (omega arith), minus_one, le-ltb b (2 ^ 31) l) (ap negsuc (omega arith))
+lifted b l h =
+    rw (to_z_pos w32 (4294967295 - b) (omega arith), minus_one, le-ltb b (2 ^ 31) l) (ap negsuc (omega arith))
 
 -- an operation on two signed numbers by way of their bits
 pub by_bits : (f : ℕ → ℕ → ℕ) (a b : ℤ) {r : ℤ} {u v w : ℕ} → mag a < 2 ^ 31 → mag b < 2 ^ 31 → mag r < 2 ^ 31

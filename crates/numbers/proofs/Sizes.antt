@@ -1,6 +1,7 @@
 -- Numbers of a size of at most n / d, and numbers from 0 to 1: fractions and sums that are, each rounding keeping the
 -- order. Assumes nothing.
-use Rattle.std.proofs.Common.{◌≡◌, ℕ, zero, suc, ◌+◌, ◌-◌, ◌*◌, ◌^◌, ◌<◌, ◌≤◌, Bool, true, false, cond, ltb, ℤ, pos, sym, refl, subst, mul-le-mul, arith}
+use Rattle.std.proofs.Common.{◌≡◌, ℕ, zero, suc, ◌+◌, ◌-◌, ◌*◌, ◌^◌, ◌<◌, ◌≤◌, Bool, true, false, cond, ltb, ℤ, pos}
+use Rattle.std.proofs.Common.{sym, refl, subst, mul-le-mul, arith}
 use lib.Ieee.{Float, fin, binary32, up, down, neg, sum, div, round, of_int}
 use lib.Ieee.Fits.{up_pos, down_pos}
 use Rattle.numbers.specs.F32.{◌⊘◌, decimal, as_float}

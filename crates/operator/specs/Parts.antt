@@ -1,6 +1,7 @@
 -- How the code renders a modulated block by parts; what a renderer promises is said in Chain without it. Definitions
 -- only.
-use Rattle.std.specs.Prelude.{ℕ, zero, suc, ◌+◌, ◌<◌, ◌≡◌, Bool, true, ◌&&◌, List, [], ◌∷◌, ◌++◌, get_or, length, take, drop, Float}
+use Rattle.std.specs.Prelude.{ℕ, zero, suc, ◌+◌, ◌<◌, ◌≡◌, Bool, true, ◌&&◌, List, [], ◌∷◌, ◌++◌, get_or, length, take}
+use Rattle.std.specs.Prelude.{drop, Float}
 use Rattle.std.specs.Float.{nan}
 use Rattle.numbers.specs.Words.{sum32}
 use Rattle.sine.specs.Sine.{near_by, modulated}

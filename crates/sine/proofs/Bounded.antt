@@ -84,7 +84,8 @@ at_way (a ∷ b ∷ xs) t (suc k) h =
     let e : suc k + 1 ≡ suc (k + 1) = omega arith in
     rw e (at_way (b ∷ xs) (and_r (stays a (b ⊖ a)) (all_stay (b ∷ xs)) t) k (omega arith))
 
-pub way_stays : (k : ℕ) → k < 640 → T (stays (get_or lut_sine k nan) (get_or lut_sine (k + 1) nan ⊖ get_or lut_sine k nan))
+pub way_stays : (k : ℕ) → k < 640
+    → T (stays (get_or lut_sine k nan) (get_or lut_sine (k + 1) nan ⊖ get_or lut_sine k nan))
 unfolding lut_sine
 way_stays k h = at_way lut_sine table_stays k (omega arith)
 

@@ -8,7 +8,8 @@ use native.Mathlib.Omega.{arith}
 use lib.Dec.{T}
 use lib.IntN.{pos, negsuc}
 use lib.Pow.{pow_pos}
-use lib.Ieee.{Float, fin, binary32, binary64, low, lt, le, eq, mul, round, fits, is_nan, to_unsigned, to_signed, in_signed}
+use lib.Ieee.{Float, fin, binary32, binary64, low, lt, le, eq, mul, round, fits, is_nan, to_unsigned, to_signed}
+use lib.Ieee.{in_signed}
 use lib.Ieee.Bits.{is_true}
 use lib.Ieee.Exact.{HasValue}
 use lib.Ieee.Fits.{mul-fits}

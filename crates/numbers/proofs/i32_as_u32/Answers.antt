@@ -1,5 +1,6 @@
 -- `units::i32_as_u32` meets its contract. Assumes nothing.
-use Rattle.std.proofs.Common.{◌≡◌, ◌-◌, ◌≤◌, true, false, T, ℤ, pos, negsuc, ◌-ℤ◌, nat_abs, sym, ap, ◌∙◌, subst, arith, w32, Fits, SFits, to_z, of_z}
+use Rattle.std.proofs.Common.{◌≡◌, ◌-◌, ◌≤◌, true, false, T, ℤ, pos, negsuc, ◌-ℤ◌, nat_abs, sym, ap, ◌∙◌, subst, arith}
+use Rattle.std.proofs.Common.{w32, Fits, SFits, to_z, of_z}
 use lib.Signed.{non_neg, mag, le_z}
 use Rattle.numbers.proofs.Signed.{back, up_cast, up_bits, flipped, down_bits}
 use Rattle.numbers.proofs.i32_as_u32.Goals as goal

@@ -9,7 +9,8 @@ use Rattle.operator.proofs.near.Given as goal
 
 abbrev pub invariant-loop-i : goal.invariant-loop-i
 invariant-loop-i l =
-    Going l.pairs (external l.modulation) l.add 0 (one l.initial.t) l.initial.out l.i (one l.t) l.out × (length l.at ≡ 64)
+    Going l.pairs (external l.modulation) l.add 0 (one l.initial.t) l.initial.out l.i (one l.t) l.out
+    × (length l.at ≡ 64)
 
 abbrev pub decreases-loop-i : goal.decreases-loop-i
 decreases-loop-i l = length l.out - l.i

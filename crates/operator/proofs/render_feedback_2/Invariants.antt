@@ -10,7 +10,8 @@ use Rattle.operator.proofs.render_feedback_2.Given as goal
 abbrev pub invariant-loop-i : goal.invariant-loop-i
 invariant-loop-i l =
     Going l.pairs (feedback l.feedback_scale) l.add
-    0 (record { lanes = l.initial.first ∷ l.initial.second ∷ []; feedback = l.initial.feedback }) l.initial.out l.i (record { lanes = l.first ∷ l.second ∷ []; feedback = l.feedback }) l.out
+    0 (record { lanes = l.initial.first ∷ l.initial.second ∷ []; feedback = l.initial.feedback })
+    l.initial.out l.i (record { lanes = l.first ∷ l.second ∷ []; feedback = l.feedback }) l.out
 
 abbrev pub decreases-loop-i : goal.decreases-loop-i
 decreases-loop-i l = length l.out - l.i

@@ -13,5 +13,6 @@ int_to_float-result c = subst T (sym (le-leb c.args.integral 16777216 (omega ari
 
 pub returns-else-integral-lt16777216 : goal.returns-else-integral-lt16777216
 returns-else-integral-lt16777216 c =
-    let e = c.requires.whole in
-    whole_back_at c.args.place c.args.integral (subst T (sym c.well_formed.0.1) tt) e c.if-integral-lt16777216.false c.requires.below_max
+    let r = c.requires in
+    whole_back_at c.args.place c.args.integral (subst T (sym c.well_formed.0.1) tt) r.whole
+    c.if-integral-lt16777216.false r.below_max
