@@ -21,6 +21,7 @@ pub enum Waveform {
 }
 
 // A number that is no wave's is a triangle's.
+#[tactic(auto, using(crate::proofs::Tests::no_wave), unfolding(crate::specs::Lfo::waveform_of))]
 pub fn waveform_from(n: u8) -> Waveform
     ensures { result ≡ waveform_of n }
 {
@@ -295,6 +296,7 @@ pub fn value_with(lut: &[f32; 641], lfo: Lfo) -> f32
 }
 
 // The one wave that needs the table.
+#[tactic(auto, unfolding(crate::specs::Lfo::is_sine))]
 fn is_sine(lfo: Lfo) -> bool
     ensures { result ≡ is_sine lfo.waveform }
 {

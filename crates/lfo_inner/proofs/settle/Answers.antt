@@ -1,0 +1,6 @@
+-- `lfo_inner::settle` meets its contract. Assumes nothing.
+use borrow.Author.Rules.{rules}
+use Rattle.lfo_inner.proofs.settle.Goals as goal
+
+pub returns : goal.returns
+returns c = simp c.with_value.ensures
