@@ -2,7 +2,6 @@
 use Rattle.lfo_inner.specs.Lfo.{delay_scrubbed}
 use Rattle.numbers.specs.F32.{decimal}
 use lib.Ieee.{of_bits}
-use borrow.Author.Rules.{rules}
 use Rattle.lfo_inner.proofs.delay_scrub.Goals as goal
 
 pub returns-then-delay_phase : goal.returns-then-delay_phase

@@ -1,6 +1,5 @@
 -- `lfo_inner::draw_if` meets its contract. Assumes nothing.
 use Rattle.lfo_inner.specs.Lfo.{drawn_if}
-use borrow.Author.Rules.{rules}
 use Rattle.lfo_inner.proofs.draw_if.Goals as goal
 
 pub returns-then-draws : goal.returns-then-draws

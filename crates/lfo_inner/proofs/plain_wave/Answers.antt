@@ -3,7 +3,6 @@ use lib.Ieee.{of_bits}
 use Rattle.numbers.specs.F32.{decimal}
 use Rattle.lfo_inner.specs.Lfo.{wave_of}
 use Rattle.lfo_inner.proofs.Waves.{no_sine}
-use borrow.Author.Rules.{rules}
 use Rattle.lfo_inner.proofs.plain_wave.Goals as goal
 
 pub returns-in-Triangle : goal.returns-in-Triangle

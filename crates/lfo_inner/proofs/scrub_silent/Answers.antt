@@ -4,7 +4,6 @@ use Rattle.lfo_inner.proofs.Scrubs.{scrubbed_from}
 use Rattle.numbers.proofs.Signed.{back}
 use lib.Signed.{mag}
 use native.Mathlib.Omega.{arith}
-use borrow.Author.Rules.{rules}
 use Rattle.lfo_inner.proofs.scrub_silent.Goals as goal
 
 pub returns : goal.returns

@@ -1,6 +1,5 @@
 -- `lfo_inner::scrub_with` meets its contract. Assumes nothing.
 use Rattle.lfo_inner.specs.Lfo.{settled}
-use borrow.Author.Rules.{rules}
 use Rattle.lfo_inner.proofs.scrub_with.Goals as goal
 
 pub returns : goal.returns

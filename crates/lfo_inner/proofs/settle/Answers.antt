@@ -1,5 +1,4 @@
 -- `lfo_inner::settle` meets its contract. Assumes nothing.
-use borrow.Author.Rules.{rules}
 use Rattle.lfo_inner.proofs.settle.Goals as goal
 
 pub returns : goal.returns

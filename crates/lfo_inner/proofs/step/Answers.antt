@@ -1,6 +1,5 @@
 -- `lfo_inner::step` meets its contract. Assumes nothing.
 use Rattle.lfo_inner.specs.Lfo.{settled}
-use borrow.Author.Rules.{rules}
 use Rattle.lfo_inner.proofs.step.Goals as goal
 
 pub returns : goal.returns

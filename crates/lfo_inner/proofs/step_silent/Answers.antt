@@ -2,7 +2,6 @@
 use Rattle.lfo_inner.specs.Lfo.{stepped}
 use Rattle.numbers.specs.F32.{decimal}
 use lib.Ieee.{of_bits}
-use borrow.Author.Rules.{rules}
 use Rattle.lfo_inner.proofs.step_silent.Goals as goal
 
 pub returns : goal.returns

@@ -2,7 +2,6 @@
 use mathlib.Core.Path.{sym, ◌∙◌}
 use Rattle.sine.specs.Table.{lut_sine}
 use Rattle.lfo_inner.proofs.Waves.{sine_at}
-use borrow.Author.Rules.{rules}
 use Rattle.lfo_inner.proofs.value.Goals as goal
 
 pub returns-then-is_sine : goal.returns-then-is_sine

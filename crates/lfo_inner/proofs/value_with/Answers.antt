@@ -1,7 +1,6 @@
 -- `lfo_inner::value_with` meets its contract. Assumes nothing.
 use mathlib.Core.Path.{sym, ◌∙◌}
 use Rattle.lfo_inner.proofs.Waves.{sine_at}
-use borrow.Author.Rules.{rules}
 use Rattle.lfo_inner.proofs.value_with.Goals as goal
 
 pub returns-then-is_sine : goal.returns-then-is_sine
