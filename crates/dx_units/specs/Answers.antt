@@ -13,8 +13,10 @@ use Rattle.dx_units_inner.specs.declared.Ratio.{Ratio}
 use Rattle.dx_units.specs.declared.Tuning.{Tuning}
 use Rattle.dx_units.specs.declared.Tuning.TheVariants as tuned
 use Rattle.dx_units_inner.specs.Units.{operator_level, pitch_envelope_level, operator_envelope_increment}
-use Rattle.dx_units_inner.specs.Units.{pitch_envelope_increment, lfo_frequency, lfo_delay, normalized_velocity_of, rate_scaling_of}
-use Rattle.dx_units_inner.specs.Units.{amp_mod_sensitivity_of, pitch_mod_sensitivity_of, keyboard_scaling_of, frequency_ratio}
+use Rattle.dx_units_inner.specs.Units.{pitch_envelope_increment, lfo_frequency, lfo_delay, normalized_velocity_of}
+use Rattle.dx_units_inner.specs.Units.{rate_scaling_of}
+use Rattle.dx_units_inner.specs.Units.{amp_mod_sensitivity_of, pitch_mod_sensitivity_of, keyboard_scaling_of}
+use Rattle.dx_units_inner.specs.Units.{frequency_ratio}
 use Rattle.patch.specs.declared.KeyboardScaling.{KeyboardScaling}
 use Rattle.patch.specs.Layout.{envelope_field, operator_field, lfo_field, lfo_sensitivity}
 use Rattle.patch.specs.Layout.{Rate, Level as StageLevel, OutputLevel, RateScaling, AmplitudeSensitivity}
@@ -88,7 +90,8 @@ unfoldable pub lfo_delay_answer : ℕ → Delay
 lfo_delay_answer n = delay_for (field_number (field_fits (lfo_field lfo_sensitivity LfoDelay) n)) (lfo_delay n)
 
 unfoldable pub normalize_velocity_answer : Float → Converted
-normalize_velocity_answer velocity = converted_for (parameter_number (unit_fits velocity)) (normalized_velocity_of velocity)
+normalize_velocity_answer velocity =
+    converted_for (parameter_number (unit_fits velocity)) (normalized_velocity_of velocity)
 
 unfoldable pub rate_scaling_answer : Float → ℕ → Converted
 rate_scaling_answer note scaling =

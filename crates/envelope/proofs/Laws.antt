@@ -16,7 +16,8 @@ module _ (reshape gate : Bool) (rate adScale releaseScale : Float) (e : Envelope
   unfolding render_answer
   render_keeps_9 = go (state_fits e) refl
     where
-      go : (b : Bool) → state_fits e ≡ b → state_fits (render_answer reshape gate rate adScale releaseScale e).envelope ≡ state_fits e
+      go : (b : Bool) → state_fits e ≡ b
+          → state_fits (render_answer reshape gate rate adScale releaseScale e).envelope ≡ state_fits e
       go true h = rw h (le-leb _ _ (rendered_stage reshape gate rate adScale releaseScale e (leb-true e.stage 3 h)))
       go false h = rw h h
 
@@ -35,7 +36,8 @@ module _ (e : Envelope) (rate level : List ℕ) (globalLevel : ℕ) where
   unfolding operator_set_answer operator_set
   operator_set_keeps_9 = go (state_fits e) (operator_fits rate level globalLevel) refl refl
     where
-      go : (b f : Bool) → state_fits e ≡ b → operator_fits rate level globalLevel ≡ f → (operator_set_answer e rate level globalLevel).envelope.stage ≡ e.stage
+      go : (b f : Bool) → state_fits e ≡ b → operator_fits rate level globalLevel ≡ f
+          → (operator_set_answer e rate level globalLevel).envelope.stage ≡ e.stage
       go true true h k = rw (h, k)
       go true false h k = rw (h, k)
       go false f h k = rw h
@@ -44,7 +46,8 @@ module _ (e : Envelope) (rate level : List ℕ) (globalLevel : ℕ) where
   unfolding pitch_set_answer pitch_set
   pitch_set_keeps_9 = go (state_fits e) (pitch_fits rate level) refl refl
     where
-      go : (b f : Bool) → state_fits e ≡ b → pitch_fits rate level ≡ f → (pitch_set_answer e rate level).envelope.stage ≡ e.stage
+      go : (b f : Bool) → state_fits e ≡ b → pitch_fits rate level ≡ f
+          → (pitch_set_answer e rate level).envelope.stage ≡ e.stage
       go true true h k = rw (h, k)
       go true false h k = rw (h, k)
       go false f h k = rw h
