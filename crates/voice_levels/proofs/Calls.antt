@@ -19,7 +19,6 @@ use Rattle.voice_setup.specs.Setup.{envelope_at}
 use Rattle.voice_levels.specs.declared.Followed.{Followed}
 use Rattle.voice_levels.specs.declared.Placed.{Placed}
 use Rattle.voice_levels.specs.declared.Scene.{Scene}
-use Rattle.voice_levels.specs.Levels.{Leveled}
 use Rattle.voice_levels.specs.declared.Raised.{Raised}
 use Rattle.voice_levels.specs.declared.Levels.{Levels}
 use Rattle.voice_levels.specs.Levels.{followed, taken, frequency_of, scaling_of, amplitude_of, put_at, no_tuned}

@@ -11,10 +11,12 @@ use Rattle.voice_levels.specs.declared.Timing.{Timing}
 use Rattle.voice_levels.specs.declared.Followed.{Followed}
 use Rattle.voice_levels.specs.Levels.{followed, taken}
 
-module _ (t : Timing) (reshape : Bool) (rate : Float) (e : Envelope) {q : Position} (eq : standing e q ≡ rendered reshape t.gate rate t.ad_scale t.release_scale e) where
+module _ (t : Timing) (reshape : Bool) (rate : Float) (e : Envelope) {q : Position}
+    (eq : standing e q ≡ rendered reshape t.gate rate t.ad_scale t.release_scale e) where
   -- it stands in a stage that there is
   pub place_stage : e.stage ≤ 3 → q.stage ≤ 3
-  place_stage h = rw (ap (λ (r : Envelope). r.stage) eq) (rendered_stage reshape t.gate rate t.ad_scale t.release_scale e h)
+  place_stage h =
+      rw (ap (λ (r : Envelope). r.stage) eq) (rendered_stage reshape t.gate rate t.ad_scale t.release_scale e h)
 
   -- and the value of its levels there is its value now
   pub place_on : {v : Float} → t.sustain ≡ false → v ≡ level_value reshape e.level q.stage q.phase q.start

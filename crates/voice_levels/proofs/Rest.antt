@@ -1,4 +1,5 @@
--- The amplitude modulation at rest: every float that equals -1 gives the power of -6.4, which antt computes. Assumes nothing.
+-- The amplitude modulation at rest: every float that equals -1 gives the power of -6.4, which antt computes. Assumes
+-- nothing.
 use mathlib.Core.Path.{◌≡◌, refl, sym, ◌∙◌, ap}
 use mathlib.Core.Bool.{Bool, true, false, ◌&&◌}
 use Prim.Native.Nat.{ℕ, ◌*◌, ◌<◌}
@@ -40,10 +41,12 @@ times_rest : (x : Float) → eq x (fin true 1 (pos 0)) ≡ true → decimal 64 1
 unfolding eq mul decimal
 times_rest nan h = no h
 times_rest (inf s) h = no h
-times_rest (fin false m e) h = absurd (no_positive (m * up e * 1) (1 * 1 * down e) (let z = down_pos e in omega arith) h)
+times_rest (fin false m e) h =
+    absurd (no_positive (m * up e * 1) (1 * 1 * down e) (let z = down_pos e in omega arith) h)
 times_rest (fin true m e) h =
     let v = equal_one (m * up e * 1) (1 * 1 * down e) true h in
-    round_same binary32 true (13421773 * 1 * (m * up e)) (2097152 * down e) (13421773 * 1 * (1 * 1)) (2097152 * 1) (let z = down_pos e in omega arith) (omega arith) (omega arith)
+    round_same binary32 true (13421773 * 1 * (m * up e)) (2097152 * down e) (13421773 * 1 * (1 * 1)) (2097152 * 1)
+    (let z = down_pos e in omega arith) (omega arith) (omega arith)
 
 -- the constant, whose bits are 3f7cf702
 abbrev resting : Float
@@ -54,9 +57,11 @@ unfolding decimal
 resting_is = refl
 
 rest : level_mod_of (fin true 1 (pos 0)) ≡ resting
-unfolding decimal add sub neg mul lt of_int of_bits to_bits to_signed difference_signed whole_below mantissa_bits pow2_fast
+unfolding decimal add sub neg mul lt of_int of_bits to_bits to_signed difference_signed whole_below mantissa_bits
+    pow2_fast
 rest = refl
 
 pub level_mod_at_rest : (x : Float) → eq x (minus_decimal 1 0) ≡ true → decimal 9881440401 10 ≡ level_mod_of x
 unfolding minus_decimal
-level_mod_at_rest x h = resting_is ∙ sym rest ∙ ap (λ (y : Float). decimal 1 0 ⊖ pow2_fast y (pos 2)) (sym (times_rest x h))
+level_mod_at_rest x h = resting_is ∙ sym rest
+    ∙ ap (λ (y : Float). decimal 1 0 ⊖ pow2_fast y (pos 2)) (sym (times_rest x h))

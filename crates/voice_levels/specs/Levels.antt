@@ -158,7 +158,8 @@ module _
     leveled_to zero = unleveled es
     leveled_to (suc k) =
         let one =
-        leveled g (operator_at ops k) (get_or ratios k no_tuned) (get_or headrooms k nan) (get_or row k 0) (envelope_at es k)
+        leveled g (operator_at ops k) (get_or ratios k no_tuned) (get_or headrooms k nan) (get_or row k 0)
+        (envelope_at es k)
         in
         put_at k one (leveled_to k)
 
