@@ -145,10 +145,10 @@ module _ (dump : List ℕ) (n : Patch) (n-is : n ≡ zero_patch) (r : Parsed) (r
   parsed_number : read_number dump ≡ r.number
   parsed_number = sym (ap (λ (x : Parsed). x.number) parsed_is ∙ number_read zero_patch dump)
 
-  pub not_read_lem : (r.number ≡ 0 → ⊥)
+  pub not_read : (r.number ≡ 0 → ⊥)
       → record { number = r.number; channel = 0; bytes = replicate 128 0 } ≡ to_packed_of dump
   unfolding to_packed_of read_of
-  not_read_lem h =
+  not_read h =
       let z = ne_eqb (read_number dump) 0 (λ q. h (sym parsed_number ∙ q)) in
       rw (z, parsed_number)
 
