@@ -65,7 +65,8 @@ module _ (dump : List ℕ) where
       at false f b q z = absurd (eqb-false (dump_number single_form dump) 0 b z)
 
   module _ (p : Patch) where
-    pub read_0 : read_number dump ≡ 0 → record { number = 0; channel = channel_byte dump; patch = voice } ≡ read_of p dump
+    pub read_0 : read_number dump ≡ 0
+        → record { number = 0; channel = channel_byte dump; patch = voice } ≡ read_of p dump
     unfolding read_of
     read_0 e = rw (eq-eqb (read_number dump) 0 e)
 
@@ -116,7 +117,8 @@ number_read p dump = at (eqb (read_number dump) 0) refl
 
 -- writing
 module _ (p : Patch) (channel : ℕ) (b : Bool) (b-is : b ≡ single_fits p) where
-  pub is_written : (b && leb channel 15) ≡ true → (bytes : List ℕ) → bytes ≡ written_of single_form channel (data_bytes p)
+  pub is_written : (b && leb channel 15) ≡ true → (bytes : List ℕ)
+      → bytes ≡ written_of single_form channel (data_bytes p)
       → record { number = 0; bytes = bytes } ≡ write_of p channel
   unfolding write_of
   is_written e bytes h = rw (← b-is, e, h)

@@ -40,8 +40,8 @@ in_order = refl
 
 -- the numbers of the fields in layout order, turned by one place, are those in a dump's order
 turned_numbers : (g : Place → ℕ) → turned 1 (map g layout) ≡ map g single_order
-unfolding turned turned_from turned_place layout operator_names envelope_names scaling_names lfo_names letters shared_names
-    single_order single_names
+unfolding turned turned_from turned_place layout operator_names envelope_names scaling_names lfo_names letters
+    shared_names single_order single_names
 turned_numbers g = refl
 
 pub data_of_numbers : (p : Patch) → turned 1 (numbers_of p) ≡ data_bytes p
@@ -50,16 +50,17 @@ data_of_numbers p = turned_numbers (number_of p)
 
 -- data bytes turned by six are the numbers of the patch in them
 pub patch_of_turned : (bytes : List ℕ) → patch_of (turned 6 bytes) ≡ patch_in bytes
-unfolding turned turned_from turned_place patch_of patch_in patch_with operator_with envelope_with scaling_with modulations_with
-    name_with stand_in single_order single_names position operator_position envelope_position scaling_position lfo_position
-    envelope_names scaling_names lfo_names letters shared_names
+unfolding turned turned_from turned_place patch_of patch_in patch_with operator_with envelope_with scaling_with
+    modulations_with name_with stand_in single_order single_names position operator_position envelope_position
+    scaling_position lfo_position envelope_names scaling_names lfo_names letters shared_names
 patch_of_turned bytes = refl
 
 -- the data bytes of the patch in 155 bytes are these
 pub data_of_patch : (bytes : List ℕ) → length bytes ≡ 155 → data_bytes (patch_in bytes) ≡ bytes
-unfolding data_bytes patch_in patch_with operator_with envelope_with scaling_with modulations_with name_with stand_in single_order
-    single_names position operator_position envelope_position scaling_position lfo_position envelope_names scaling_names
-    lfo_names letters shared_names number_of operator_at operator_number envelope_number scaling_number lfo_number firsts
+unfolding data_bytes patch_in patch_with operator_with envelope_with scaling_with modulations_with name_with stand_in
+    single_order single_names position operator_position envelope_position scaling_position lfo_position envelope_names
+    scaling_names lfo_names letters shared_names number_of operator_at operator_number envelope_number scaling_number
+    lfo_number firsts
 data_of_patch bytes h = listed 0 155 bytes h
 
 -- a patch made of numbers is made of their list in a dump's order
@@ -81,8 +82,8 @@ length_data p = refl
 
 -- every limit is below 128, so every number of such a patch is
 limits_low : every (λ n. leb (field_of n).largest 127) layout ≡ true
-unfolding every layout operator_names envelope_names scaling_names lfo_names letters shared_names field_of later operator_field
-    envelope_field scaling_field lfo_field
+unfolding every layout operator_names envelope_names scaling_names lfo_names letters shared_names field_of later
+    operator_field envelope_field scaling_field lfo_field
 limits_low = refl
 
 largest_map : {N : Type 0} (g : N → ℕ) (ns : List N) → Each (λ n. g n ≤ 127) ns → largest_of (map g ns) ≤ 127

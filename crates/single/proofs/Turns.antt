@@ -33,12 +33,13 @@ module _ (by : ℕ) (s : List ℕ) where
   length_turned i zero = refl
   length_turned i (suc count) = ap suc (length_turned (suc i) count)
 
-  get_d_turned : (count i k : ℕ) → k < count → get_or (turned_from by s i count) k 0 ≡ get_or s (turned_place by (i + k)) 0
+  get_or_turned : (count i k : ℕ) → k < count
+      → get_or (turned_from by s i count) k 0 ≡ get_or s (turned_place by (i + k)) 0
   unfolding turned_from
-  get_d_turned zero i k h = let z : ⊥ = omega arith in absurd z
-  get_d_turned (suc count) i zero h = ap (λ (j : ℕ). get_or s (turned_place by j) 0) (sym (add-zero i))
-  get_d_turned (suc count) i (suc k) h =
-      get_d_turned count (suc i) k (omega arith) ∙ ap (λ (j : ℕ). get_or s (turned_place by j) 0) (omega arith)
+  get_or_turned zero i k h = let z : ⊥ = omega arith in absurd z
+  get_or_turned (suc count) i zero h = ap (λ (j : ℕ). get_or s (turned_place by j) 0) (sym (add-zero i))
+  get_or_turned (suc count) i (suc k) h =
+      get_or_turned count (suc i) k (omega arith) ∙ ap (λ (j : ℕ). get_or s (turned_place by j) 0) (omega arith)
 
   -- the first i numbers are there
   abbrev pub TurnedTo : ℕ → List ℕ → Type 0
@@ -61,7 +62,7 @@ module _ (by : ℕ) (s : List ℕ) where
   turned_all out l t =
       ext_get_or 0 out (turned_from by s 0 155) (l ∙ sym (length_turned 0 155)) (λ k h.
       t k (omega arith)
-      ∙ sym (get_d_turned 155 0 k (omega arith) ∙ ap (λ (j : ℕ). get_or s (turned_place by j) 0) (zero-add k)))
+      ∙ sym (get_or_turned 155 0 k (omega arith) ∙ ap (λ (j : ℕ). get_or s (turned_place by j) 0) (zero-add k)))
 
   -- none is larger than all were
   get_d_low : (l : List ℕ) (k : ℕ) → get_or l k 0 ≤ largest_of l

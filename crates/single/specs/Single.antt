@@ -1,7 +1,8 @@
 -- A single-voice dump: Yamaha's frame around a patch's 155 fields, a byte each. What it shares with the packed form,
 -- the fields, their names and their limits, is `patch`'s table; the frame and the checksum are those of every dump.
 -- Only where a field stands is said here. To be believed, but for the turn of an operator's fields at the end.
-use Rattle.std.specs.Prelude.{Bool, cond, ◌&&◌, List, [], ◌∷◌, ◌++◌, map, ℕ, zero, suc, ◌+◌, ◌-◌, ◌%◌, get_or, replicate, eqb, leb, ltb}
+use Rattle.std.specs.Prelude.{Bool, cond, ◌&&◌, List, [], ◌∷◌, ◌++◌, map, ℕ, zero, suc, ◌+◌, ◌-◌, ◌%◌}
+use Rattle.std.specs.Prelude.{get_or, replicate, eqb, leb, ltb}
 use Rattle.dump.specs.declared.Form.{Form}
 use Rattle.dump.specs.Dump.{yamaha_form, channel_byte, data_of, dump_number}
 use Rattle.dump_writer.specs.Written.{written_of}
