@@ -1,9 +1,8 @@
 // The judge's entries 90 to 93 (hex, docs/ORACLE.md): the crate `single`. An answer stands from place 5 on. The patch is
 // the register's.
-
-// The length of the call at the script's start; 0 for no entry of this crate.
 #![tactic(auto)]
 
+// The length of the call at the script's start; 0 for no entry of this crate.
 pub fn length(entry: u8, s: &[u8]) -> usize {
     match entry {
         0x90 | 0x93 => 3 + judge_wire::half(s, 1) as usize,
