@@ -15,7 +15,8 @@ use Rattle.envelope_stages.specs.Stages.{OnChart}
 use Rattle.envelope_inner.specs.declared.Envelope.{Envelope}
 use Rattle.envelope_inner.specs.Set.{operator_set}
 use Rattle.patch.specs.declared.Operator.{Operator}
-use Rattle.patch.specs.Layout.{Field, Fine, operator_field, envelope_field, envelope_names, scaling_names, operator_names}
+use Rattle.patch.specs.Layout.{Field, Fine, operator_field, envelope_field, envelope_names, scaling_names}
+use Rattle.patch.specs.Layout.{operator_names}
 use Rattle.patch.specs.Form.{operator_number, envelope_number, operator_at}
 use Rattle.patch.specs.Packed.{within, operator_fits, operators_fit}
 use Rattle.voice_setup.specs.declared.OperatorSetup.{OperatorSetup}
