@@ -181,6 +181,7 @@ parts_add _ _ (no_part e) (no_part d) =
 
 part_not_one : (x : Float) → Part x → AtLeast 0 x → ⊥
 part_not_one _ (part m e h) (ge_fin _ _ l) = let p = down_pos e in omega arith
+part_not_one _ (no_part e) x = elim x [ ]
 
 one_less : (m : ℕ) (e : ℤ) → m * up e * 2 ^ 23 ≤ 16777215 * down e → AtLeast 0 (fin false m e) → Part (sub binary32 (fin false m e) (fin false 1 (pos 0)))
 unfolding sub add neg sum
