@@ -23,15 +23,19 @@ use Rattle.lfo_inner.specs.declared.Lfo.{Lfo}
 use Rattle.lfo_inner.specs.declared.Motion.{Motion}
 use Rattle.lfo_inner.specs.Lfo.{moved_to, valued, adjusted, restarted, wrapped, stepped, scrubbed, settled}
 use Rattle.patch_limits.specs.Ranges.{sample_rate_fits}
-use Rattle.lfo.specs.Answers.{from_zero, state_fits, step_fits, scrub_fits, moved, not_moved, move_answer, step_answer, scrub_answer}
+use Rattle.lfo.specs.Answers.{from_zero, state_fits, step_fits, scrub_fits, moved, not_moved, move_answer, step_answer}
+use Rattle.lfo.specs.Answers.{scrub_answer}
 use Rattle.lfo.specs.Calls.{one_hz_fits}
-use Rattle.lfo.proofs.Phases.{FromZero, plus, is_from_zero, under_from_zero, from_zero_le, from_zero_finite, Part, is_part, part_from_zero, part_below_one, parts_add, sum_wraps, product_at_least, below_power, when_finite, past_whole_lem}
+use Rattle.lfo.proofs.Phases.{FromZero, plus, is_from_zero, under_from_zero, from_zero_le, from_zero_finite, Part}
+use Rattle.lfo.proofs.Phases.{is_part, part_from_zero, part_below_one, parts_add, sum_wraps, product_at_least}
+use Rattle.lfo.proofs.Phases.{below_power, when_finite, past_whole_lem}
 
 -- ---- the tests, taken apart and put together
 
 from_zero_lem : (x : Float) → T (from_zero x) → FromZero x
 unfolding from_zero decimal
-from_zero_lem x t = is_from_zero x (is_true _ (and_l (le (decimal 0 0) x) (finite x) t)) (and_r (le (decimal 0 0) x) (finite x) t)
+from_zero_lem x t = is_from_zero x (is_true _ (and_l (le (decimal 0 0) x) (finite x) t))
+    (and_r (le (decimal 0 0) x) (finite x) t)
 
 to_from_zero : (x : Float) → FromZero x → T (from_zero x)
 unfolding from_zero decimal
@@ -41,7 +45,8 @@ accepted_with : (lfo : Lfo) → Part lfo.phase → FromZero lfo.frequency → T 
 unfolding state_fits decimal
 accepted_with lfo p f =
     and_i (le (decimal 0 0) lfo.phase && lt lfo.phase (decimal 1 0)) (from_zero lfo.frequency)
-    (and_i (le (decimal 0 0) lfo.phase) (lt lfo.phase (decimal 1 0)) (from_zero_le lfo.phase (part_from_zero lfo.phase p)) (part_below_one lfo.phase p))
+    (and_i (le (decimal 0 0) lfo.phase) (lt lfo.phase (decimal 1 0))
+    (from_zero_le lfo.phase (part_from_zero lfo.phase p)) (part_below_one lfo.phase p))
     (to_from_zero lfo.frequency f)
 
 -- the stored value counts for nothing
@@ -71,30 +76,44 @@ module _ (lfo : Lfo) (t : T (state_fits lfo)) where
   -- ---- a step, a scrub and a reset
 
   module _ (state : ℕ) where
-    step_part : (scale : Float) → T (fits binary32 lfo.phase) → T (step_fits lfo scale) → Part (wrapped (lfo.phase ⊕ scale ⊗ lfo.frequency))
+    step_part : (scale : Float) → T (fits binary32 lfo.phase) → T (step_fits lfo scale)
+        → Part (wrapped (lfo.phase ⊕ scale ⊗ lfo.frequency))
     unfolding step_fits wrapped decimal
     step_part scale f s =
         let p = scale ⊗ lfo.frequency in
         let h = is_true (lt p (decimal 1 0)) (and_r (from_zero scale) (lt p (decimal 1 0)) s) in
-        let z = below_power 0 p (product_at_least scale lfo.frequency (from_zero_lem scale (and_l (from_zero scale) (lt p (decimal 1 0)) s)) (from_zero_lem lfo.frequency frequency_fits_lem)) h in
-        sum_wraps (lfo.phase ⊕ p) (parts_add lfo.phase p (phase_part f) (is_part p (mul-fits binary32 scale lfo.frequency) z h))
+        let z = below_power 0 p
+        (product_at_least scale lfo.frequency
+        (from_zero_lem scale (and_l (from_zero scale) (lt p (decimal 1 0)) s))
+        (from_zero_lem lfo.frequency frequency_fits_lem)) h in
+        sum_wraps (lfo.phase ⊕ p)
+        (parts_add lfo.phase p (phase_part f) (is_part p (mul-fits binary32 scale lfo.frequency) z h))
 
-    pub step_leaves_accepted : (scale : Float) → T (fits binary32 lfo.phase) → T (step_fits lfo scale) → T (state_fits (stepped lfo state scale).lfo)
+    pub step_leaves_accepted : (scale : Float) → T (fits binary32 lfo.phase) → T (step_fits lfo scale)
+        → T (state_fits (stepped lfo state scale).lfo)
     unfolding stepped moved_to
-    step_leaves_accepted scale f s = accepted_with (stepped lfo state scale).lfo (step_part scale f s) (from_zero_lem lfo.frequency frequency_fits_lem)
+    step_leaves_accepted scale f s =
+        accepted_with (stepped lfo state scale).lfo (step_part scale f s)
+        (from_zero_lem lfo.frequency frequency_fits_lem)
 
-    scrub_part : (sample : Float) → T (scrub_fits lfo sample) → Part (sample ⊗ lfo.frequency ⊖ of_int binary32 (to_signed 31 (sample ⊗ lfo.frequency)))
+    scrub_part : (sample : Float) → T (scrub_fits lfo sample)
+        → Part (sample ⊗ lfo.frequency ⊖ of_int binary32 (to_signed 31 (sample ⊗ lfo.frequency)))
     unfolding scrub_fits decimal
     scrub_part sample s =
         let p = sample ⊗ lfo.frequency in
         let limit = decimal 2147483648 0 in
         let h = is_true (lt p limit) (and_r (from_zero sample) (lt p limit) s) in
-        let z = below_power 31 p (product_at_least sample lfo.frequency (from_zero_lem sample (and_l (from_zero sample) (lt p limit) s)) (from_zero_lem lfo.frequency frequency_fits_lem)) h in
+        let z = below_power 31 p
+        (product_at_least sample lfo.frequency (from_zero_lem sample (and_l (from_zero sample) (lt p limit) s))
+        (from_zero_lem lfo.frequency frequency_fits_lem)) h in
         past_whole_lem p (mul-fits binary32 sample lfo.frequency) z h
 
-    pub scrub_leaves_accepted : (sample : Float) → T (scrub_fits lfo sample) → T (state_fits (scrubbed lfo state sample).lfo)
+    pub scrub_leaves_accepted : (sample : Float) → T (scrub_fits lfo sample)
+        → T (state_fits (scrubbed lfo state sample).lfo)
     unfolding scrubbed moved_to
-    scrub_leaves_accepted sample s = accepted_with (scrubbed lfo state sample).lfo (scrub_part sample s) (from_zero_lem lfo.frequency frequency_fits_lem)
+    scrub_leaves_accepted sample s =
+        accepted_with (scrubbed lfo state sample).lfo (scrub_part sample s)
+        (from_zero_lem lfo.frequency frequency_fits_lem)
 
     -- the whole answers, the refusal 7 included
     answered : (lut : List Float) (m : Motion) (b : Bool) → (T b → T (state_fits m.lfo))
@@ -102,26 +121,34 @@ module _ (lfo : Lfo) (t : T (state_fits lfo)) where
     answered lut m true k = settled_accepted lut m (k tt)
     answered lut m false k = t
 
-    pub step_keeps_accepted : (lut : List Float) (scale : Float) → T (fits binary32 lfo.phase) → T (state_fits (step_answer lut lfo state scale).lfo)
+    pub step_keeps_accepted : (lut : List Float) (scale : Float) → T (fits binary32 lfo.phase)
+        → T (state_fits (step_answer lut lfo state scale).lfo)
     unfolding step_answer move_answer
-    step_keeps_accepted lut scale f = rw (is_true (state_fits lfo) t) (answered lut (stepped lfo state scale) (step_fits lfo scale) (step_leaves_accepted scale f))
+    step_keeps_accepted lut scale f =
+        rw (is_true (state_fits lfo) t)
+        (answered lut (stepped lfo state scale) (step_fits lfo scale) (step_leaves_accepted scale f))
 
-    pub scrub_keeps_accepted : (lut : List Float) (sample : Float) → T (state_fits (scrub_answer lut lfo state sample).lfo)
+    pub scrub_keeps_accepted : (lut : List Float) (sample : Float)
+        → T (state_fits (scrub_answer lut lfo state sample).lfo)
     unfolding scrub_answer move_answer
-    scrub_keeps_accepted lut sample = rw (is_true (state_fits lfo) t) (answered lut (scrubbed lfo state sample) (scrub_fits lfo sample) (scrub_leaves_accepted sample))
+    scrub_keeps_accepted lut sample =
+        rw (is_true (state_fits lfo) t)
+        (answered lut (scrubbed lfo state sample) (scrub_fits lfo sample) (scrub_leaves_accepted sample))
 
   pub reset_leaves_accepted : T (state_fits (restarted lfo))
   unfolding restarted moved_to state_fits decimal le lt
   reset_leaves_accepted = go lfo.reset_phase
     where
-      go : (b : Bool) → T (le (decimal 0 0) (cond b (decimal 0 0) lfo.phase) && lt (cond b (decimal 0 0) lfo.phase) (decimal 1 0) && from_zero lfo.frequency)
+      go : (b : Bool) → T (le (decimal 0 0) (cond b (decimal 0 0) lfo.phase)
+          && lt (cond b (decimal 0 0) lfo.phase) (decimal 1 0) && from_zero lfo.frequency)
       go true = frequency_fits_lem
       go false = t
 
   -- ---- setting
 
   -- it leaves an accepted state exactly where the product of the frequencies is finite and not negative
-  pub set_leaves_accepted : (m : ModulationParameters) → state_fits (adjusted lfo m) ≡ from_zero (lfo_frequency m.rate ⊗ lfo.one_hz)
+  pub set_leaves_accepted : (m : ModulationParameters) → state_fits (adjusted lfo m)
+      ≡ from_zero (lfo_frequency m.rate ⊗ lfo.one_hz)
   unfolding state_fits adjusted
   set_leaves_accepted m = simp (is_true (le (decimal 0 0) lfo.phase && lt lfo.phase (decimal 1 0)) phase_in_range)
 
@@ -130,11 +157,14 @@ pub step_phase_fits : (lfo : Lfo) (state : ℕ) (scale : Float) → T (fits bina
 unfolding stepped moved_to wrapped
 step_phase_fits lfo state scale =
     let y = lfo.phase ⊕ scale ⊗ lfo.frequency in
-    cond-fits binary32 (le (decimal 1 0) y) (y ⊖ decimal 1 0) y (sub-fits binary32 y (decimal 1 0)) (add-fits binary32 lfo.phase (scale ⊗ lfo.frequency))
+    cond-fits binary32 (le (decimal 1 0) y) (y ⊖ decimal 1 0) y (sub-fits binary32 y (decimal 1 0))
+    (add-fits binary32 lfo.phase (scale ⊗ lfo.frequency))
 
-pub scrub_phase_fits : (lfo : Lfo) (state : ℕ) (sample : Float) → T (fits binary32 (scrubbed lfo state sample).lfo.phase)
+pub scrub_phase_fits : (lfo : Lfo) (state : ℕ) (sample : Float)
+    → T (fits binary32 (scrubbed lfo state sample).lfo.phase)
 unfolding scrubbed moved_to
-scrub_phase_fits lfo state sample = sub-fits binary32 (sample ⊗ lfo.frequency) (of_int binary32 (to_signed 31 (sample ⊗ lfo.frequency)))
+scrub_phase_fits lfo state sample =
+    sub-fits binary32 (sample ⊗ lfo.frequency) (of_int binary32 (to_signed 31 (sample ⊗ lfo.frequency)))
 
 pub reset_phase_fits : (lfo : Lfo) → T (fits binary32 lfo.phase) → T (fits binary32 (restarted lfo).phase)
 unfolding restarted moved_to decimal fits
@@ -145,13 +175,15 @@ reset_phase_fits lfo f = cond-fits binary32 lfo.reset_phase (decimal 0 0) lfo.ph
 -- the frequencies of the hundred rates lie from 1 / 16 to 32
 rate_in_range : ℕ → Bool
 unfolding lfo_frequency lfo_steps decimal mul of_int
-rate_in_range n = positive (lfo_frequency n) && le (fin false 1 (negsuc 3)) (lfo_frequency n) && le (lfo_frequency n) (fin false 1 (pos 5))
+rate_in_range n = positive (lfo_frequency n) && le (fin false 1 (negsuc 3)) (lfo_frequency n)
+    && le (lfo_frequency n) (fin false 1 (pos 5))
 
 every_rate : T (all_below rate_in_range 100)
 unfolding rate_in_range all_below lfo_frequency lfo_steps decimal mul of_int round le lt
 every_rate = tt
 
-rate_in_range_lem : (n : ℕ) → n ≤ 99 → T (positive (lfo_frequency n)) × T (le (fin false 1 (negsuc 3)) (lfo_frequency n)) × T (le (lfo_frequency n) (fin false 1 (pos 5)))
+rate_in_range_lem : (n : ℕ) → n ≤ 99 → T (positive (lfo_frequency n))
+    × T (le (fin false 1 (negsuc 3)) (lfo_frequency n)) × T (le (lfo_frequency n) (fin false 1 (pos 5)))
 unfolding rate_in_range
 rate_in_range_lem n h =
     let r = at_each rate_in_range 100 every_rate n (omega arith) in
@@ -188,10 +220,13 @@ unfolding decimal div mul round
 products_positive = (tt, tt)
 
 -- for any part of a second that is finite and not negative, the product is not negative
-pub frequency_product_finite : (n : ℕ) (h : Float) → n ≤ 99 → T (from_zero h) → T (finite (lfo_frequency n ⊗ h)) → T (from_zero (lfo_frequency n ⊗ h))
+pub frequency_product_finite : (n : ℕ) (h : Float) → n ≤ 99 → T (from_zero h) → T (finite (lfo_frequency n ⊗ h))
+    → T (from_zero (lfo_frequency n ⊗ h))
 frequency_product_finite n h l t f =
     to_from_zero (lfo_frequency n ⊗ h)
-    (when_finite (lfo_frequency n ⊗ h) (product_at_least (lfo_frequency n) h (positive_from_zero (lfo_frequency n) (rate_in_range_lem n l).0) (from_zero_lem h t)) f)
+    (when_finite (lfo_frequency n ⊗ h)
+    (product_at_least (lfo_frequency n) h (positive_from_zero (lfo_frequency n) (rate_in_range_lem n l).0)
+    (from_zero_lem h t)) f)
 
 -- and for one that a fresh LFO has it is finite too
 pub frequency_product : (n : ℕ) (h : Float) → n ≤ 99 → T (one_hz_fits h) → T (from_zero (lfo_frequency n ⊗ h))
@@ -205,10 +240,13 @@ frequency_product n h l t =
     let a = mul_mono binary32 (fin false 1 (negsuc 3)) f shortest h tt r.0 shortest_positive p r.1 low in
     let b = mul_mono binary32 f (fin false 1 (pos 5)) h longest r.0 tt p longest_positive r.2 high in
     to_from_zero (f ⊗ h)
-    (positive_from_zero (f ⊗ h) (between (fin false 1 (negsuc 3) ⊗ shortest) (f ⊗ h) (fin false 1 (pos 5) ⊗ longest) products_positive.0 products_positive.1 a b))
+    (positive_from_zero (f ⊗ h)
+    (between (fin false 1 (negsuc 3) ⊗ shortest) (f ⊗ h)
+    (fin false 1 (pos 5) ⊗ longest) products_positive.0 products_positive.1 a b))
 
 -- the reciprocal of a positive number, from those at both ends
-reciprocal : (x : Float) → T (positive x) → T (le (decimal 8000 0) x) → T (le x (decimal 192000 0)) → T (le shortest (decimal 1 0 ⊘ x)) × T (le (decimal 1 0 ⊘ x) longest)
+reciprocal : (x : Float) → T (positive x) → T (le (decimal 8000 0) x) → T (le x (decimal 192000 0))
+    → T (le shortest (decimal 1 0 ⊘ x)) × T (le (decimal 1 0 ⊘ x) longest)
 unfolding decimal div
 reciprocal nan p g h = absurd p
 reciprocal (inf s) p g h = absurd p
@@ -232,5 +270,6 @@ unfolding sample_rate_fits one_hz_fits
 init_one_hz rate t =
     let low = and_l (le (decimal 8000 0) rate) (le rate (decimal 192000 0)) t in
     let high = and_r (le (decimal 8000 0) rate) (le rate (decimal 192000 0)) t in
-    let r = reciprocal rate (between (decimal 8000 0) rate (decimal 192000 0) rates_positive.0 rates_positive.1 low high) low high in
+    let r = reciprocal rate
+    (between (decimal 8000 0) rate (decimal 192000 0) rates_positive.0 rates_positive.1 low high) low high in
     and_i (le shortest (decimal 1 0 ⊘ rate)) (le (decimal 1 0 ⊘ rate) longest) r.0 r.1

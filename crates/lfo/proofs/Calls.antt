@@ -23,7 +23,8 @@ use Rattle.lfo.specs.Answers.{read_answer, value_answer, delay_ramp_answer, pitc
 use Rattle.lfo.specs.Calls.{Call, Set, Reset, Step, Scrub, Value, DelayRamp, PitchMod, AmpMod}
 use Rattle.lfo.specs.Calls.{number_of, lfo_after, answer_to, refusal_of, Valid}
 use Rattle.lfo.proofs.Fields.{rate_fits_lem}
-use Rattle.lfo.proofs.Accepted.{step_leaves_accepted, scrub_leaves_accepted, reset_leaves_accepted, set_leaves_accepted, step_phase_fits, scrub_phase_fits, reset_phase_fits, frequency_product, init_one_hz}
+use Rattle.lfo.proofs.Accepted.{step_leaves_accepted, scrub_leaves_accepted, reset_leaves_accepted, set_leaves_accepted}
+use Rattle.lfo.proofs.Accepted.{step_phase_fits, scrub_phase_fits, reset_phase_fits, frequency_product, init_one_hz}
 
 -- ---- each entry
 
@@ -51,7 +52,8 @@ module _ (lfo : Lfo) (s : Valid lfo) where
   adjusted_valid : (m : ModulationParameters) → modulations_fit m lfo_sensitivity ≡ true → Valid (adjusted lfo m)
   unfolding adjusted
   adjusted_valid m e = record {
-    accepted = subst T (sym (set_leaves_accepted lfo s.accepted m)) (frequency_product m.rate lfo.one_hz (rate_fits_lem m lfo_sensitivity e) s.rate_fits);
+    accepted = subst T (sym (set_leaves_accepted lfo s.accepted m))
+        (frequency_product m.rate lfo.one_hz (rate_fits_lem m lfo_sensitivity e) s.rate_fits);
     phase_fits = s.phase_fits;
     rate_fits = s.rate_fits;
   }
@@ -60,7 +62,9 @@ module _ (lfo : Lfo) (s : Valid lfo) where
   unfolding set_answer
   set_keeps m = rw (is_true (state_fits lfo) s.accepted) (go (modulations_fit m lfo_sensitivity) refl)
     where
-      go : (b : Bool) → modulations_fit m lfo_sensitivity ≡ b → Kept (cond b (prepared 0 (adjusted lfo m)) (prepared 6 lfo)).lfo (cond b (prepared 0 (adjusted lfo m)) (prepared 6 lfo)).number
+      go : (b : Bool) → modulations_fit m lfo_sensitivity ≡ b
+          → Kept (cond b (prepared 0 (adjusted lfo m)) (prepared 6 lfo)).lfo
+          (cond b (prepared 0 (adjusted lfo m)) (prepared 6 lfo)).number
       go true e = (adjusted_valid m e, tt)
       go false e = (s, tt)
 

@@ -29,5 +29,6 @@ module _ (m : ModulationParameters) (limit : â„•) (h : modulations_fit m limit â
   unfolding modulations_fit within lfo_names lfo_field lfo_number
   sensitivity_fits =
       leb-true m.pitch_mod_sensitivity limit
-      (last_of_seven (leb m.rate 99) (leb m.delay 99) (leb m.pitch_mod_depth 99) (leb m.amp_mod_depth 99) (leb m.reset_phase 1) (leb m.waveform 5)
+      (last_of_seven (leb m.rate 99) (leb m.delay 99) (leb m.pitch_mod_depth 99) (leb m.amp_mod_depth 99)
+      (leb m.reset_phase 1) (leb m.waveform 5)
       (leb m.pitch_mod_sensitivity limit) h)

@@ -3,20 +3,23 @@
 use mathlib.Core.Path.{◌≡◌, refl, sym, ◌∙◌, ap, subst}
 use mathlib.Core.Bool.{Bool, true, false, cond}
 use Prim.Native.Nat.{ℕ, zero, suc, ◌+◌, ◌-◌, ◌*◌, ◌/◌, ◌%◌, ◌^◌, ◌≤◌, ◌<◌, min}
-use native.Mathlib.Nat.{zero-mul, mul_comm, mul_assoc, mul_right_comm, add-mul, mul-le-mul, mul-le-mul_right, div-lt_iff_lt-mul, div-add-mod', mod-lt, mul-le-mul_left}
+use native.Mathlib.Nat.{zero-mul, mul_comm, mul_assoc, mul_right_comm, add-mul, mul-le-mul, mul-le-mul_right}
+use native.Mathlib.Nat.{div-lt_iff_lt-mul, div-add-mod', mod-lt, mul-le-mul_left}
 use native.Mathlib.Omega.{arith}
 use borrow.Author.Tests.{eqb-true, le-ltb, ltb-false, leb-true, leb-false}
 use lib.Dec.{T, ltb, leb, eqb, lt→ltb}
 use lib.IntN.{ℤ, pos, negsuc}
 use lib.Pow.{pow_pos}
-use lib.Ieee.{Float, nan, inf, fin, binary32, up, down, lt, le, eq, fits, neg, add, sub, mul, sum, round, of_int, to_signed}
+use lib.Ieee.{Float, nan, inf, fin, binary32, up, down, lt, le, eq, fits, neg, add, sub, mul, sum, round, of_int}
+use lib.Ieee.{to_signed}
 use lib.Ieee.Bits.{is_true}
 use lib.Ieee.Back.{round_whole}
 use lib.Ieee.Exact.{HasValue, round_exact}
 use lib.Ieee.Fits.{down_pos, and_i, eq→eqb, round-fits}
 use lib.Ieee.Order.{round_mono}
 use lib.Ieee.Scale.{finite}
-use Rattle.numbers.proofs.Views.{no, on, both, AtLeast, ge_fin, at_least, NotAtLeast, nge_fin, not_at_least, Under, lt_fin, under}
+use Rattle.numbers.proofs.Views.{no, on, both, AtLeast, ge_fin, at_least, NotAtLeast, nge_fin, not_at_least, Under}
+use Rattle.numbers.proofs.Views.{lt_fin, under}
 use Rattle.numbers.proofs.Casts.{digits_lt, le_or}
 use Rattle.utils.proofs.Whole.{whole_exact}
 use Rattle.numbers.proofs.Rounded.{Plus, p_inf, p_fin, round_plus, Upto, upto, upto_at}
@@ -37,9 +40,12 @@ is_from_zero nan h f = absurd f
 is_from_zero (inf s) h f = absurd f
 is_from_zero (fin false m e) h f = plus m e
 is_from_zero (fin true m e) h f =
-    negative_zero m e (no_digits m e (let z = eqb-true (0 * 1 * down e) (m * up e * 1) (both (eqb (0 * 1 * down e) (m * up e * 1)) (eqb (0 * 1 * down e) 0) h).0 in omega arith))
+    negative_zero m e (no_digits m e
+    (let z = eqb-true (0 * 1 * down e) (m * up e * 1)
+    (both (eqb (0 * 1 * down e) (m * up e * 1)) (eqb (0 * 1 * down e) 0) h).0 in omega arith))
 
-pub under_from_zero : (j : ℕ) (x : Float) → le (fin false 0 (pos 0)) x ≡ true → lt x (fin false 1 (pos j)) ≡ true → FromZero x
+pub under_from_zero : (j : ℕ) (x : Float) → le (fin false 0 (pos 0)) x ≡ true → lt x (fin false 1 (pos j)) ≡ true
+    → FromZero x
 unfolding le lt eq
 under_from_zero j nan g h = no h
 under_from_zero j (inf true) g h = no g
@@ -102,7 +108,8 @@ rounded_part : (n d : ℕ) → 0 < d → n * 2 ^ 24 ≤ 16777215 * d → Part (r
 unfolding round
 rounded_part n d p h =
     from_upto (round binary32 false n d)
-    (upto_at 16777215 (negsuc 23) (round binary32 false n d) (round_plus n d) (is_true _ (round_mono binary32 n d 16777215 (2 ^ 24) p (omega arith) h)))
+    (upto_at 16777215 (negsuc 23) (round binary32 false n d) (round_plus n d)
+    (is_true _ (round_mono binary32 n d 16777215 (2 ^ 24) p (omega arith) h)))
 
 -- a negative rounding of nothing is -0
 cleared : (a b c : ℕ) → 0 < b → a * b ≡ c → c ≡ 0 → a ≡ 0
@@ -120,7 +127,8 @@ zero_value (fin true m e) d p v =
 zero_part : (n d : ℕ) → n ≡ 0 → 0 < d → Part (round binary32 true n d)
 zero_part n d z p =
     subst (λ (k : ℕ). Part (round binary32 true k d)) (sym z)
-    (zero_value (round binary32 true 0 d) d p (round_exact binary32 true 0 d 0 0 p (pow_pos 24) (pow_pos 277) (sym (zero-mul d))))
+    (zero_value (round binary32 true 0 d) d p
+    (round_exact binary32 true 0 d 0 0 p (pow_pos 24) (pow_pos 277) (sym (zero-mul d))))
 
 -- ---- the sum of two, and what a wrap leaves of it
 
@@ -129,7 +137,8 @@ pub data Sum : Float → Type 0 where
   sum_of : (n d : ℕ) → 0 < d → n * 2 ^ 23 ≤ 16777215 * d → Sum (round binary32 false n d)
   sum_small : (x : Float) → Part x → Sum x
 
-added : (A B E D : ℕ) → A * 2 ^ 24 ≤ 16777215 * E → B * 2 ^ 24 ≤ 16777215 * D → (A * D + B * E) * 2 ^ 23 ≤ 16777215 * (E * D)
+added : (A B E D : ℕ) → A * 2 ^ 24 ≤ 16777215 * E → B * 2 ^ 24 ≤ 16777215 * D
+    → (A * D + B * E) * 2 ^ 23 ≤ 16777215 * (E * D)
 added A B E D h k =
     let p : A * 2 ^ 24 * D ≤ 16777215 * E * D = mul-le-mul_right D h in
     let q : B * 2 ^ 24 * E ≤ 16777215 * D * E = mul-le-mul_right E k in
@@ -162,28 +171,35 @@ nothing d e = gone (up e) (down d)
 mixed : (a b c : ℕ) → a ≡ 0 → 0 < c → b * 2 ^ 24 ≤ 16777215 * c → (t : Bool) → ltb a b ≡ t
     → Sum (cond t (round binary32 false (b - a) c) (round binary32 (ltb b a) (a - b) c))
 mixed a b c z p h true l = sum_small _ (rounded_part (b - a) c p (less b a c z h))
-mixed a b c z p h false l = rw (le-ltb b a (let w = ltb-false a b l in omega arith)) (sum_small _ (rounded_part (a - b) c p (omega arith)))
+mixed a b c z p h false l =
+    rw (le-ltb b a (let w = ltb-false a b l in omega arith)) (sum_small _ (rounded_part (a - b) c p (omega arith)))
 
 pub parts_add : (x y : Float) → Part x → Part y → Sum (add binary32 x y)
 unfolding add sum
 parts_add _ _ (part m e h) (part n d k) =
-    sum_of (m * up e * down d + n * up d * down e) (down e * down d) (both_pos e d) (added (m * up e) (n * up d) (down e) (down d) h k)
+    sum_of (m * up e * down d + n * up d * down e) (down e * down d) (both_pos e d)
+    (added (m * up e) (n * up d) (down e) (down d) h k)
 parts_add _ _ (part m e h) (no_part d) =
     let a = m * up e * down d in
     let b = 0 * up d * down e in
     let z : b ≡ 0 = nothing e d in
-    rw (le-ltb a b (omega arith)) (sum_small _ (rounded_part (a - b) (down e * down d) (both_pos e d) (less a b (down e * down d) z (scaled (m * up e) (down e) (down d) h))))
+    rw (le-ltb a b (omega arith))
+    (sum_small _ (rounded_part (a - b) (down e * down d) (both_pos e d)
+    (less a b (down e * down d) z (scaled (m * up e) (down e) (down d) h))))
 parts_add _ _ (no_part e) (part n d k) =
     mixed (0 * up e * down d) (n * up d * down e) (down e * down d) (nothing d e) (both_pos e d)
-    (subst (λ (c : ℕ). n * up d * down e * 2 ^ 24 ≤ 16777215 * c) (mul_comm (down d) (down e)) (scaled (n * up d) (down d) (down e) k)) (ltb (0 * up e * down d) (n * up d * down e)) refl
+    (subst (λ (c : ℕ). n * up d * down e * 2 ^ 24 ≤ 16777215 * c) (mul_comm (down d) (down e))
+    (scaled (n * up d) (down d) (down e) k)) (ltb (0 * up e * down d) (n * up d * down e)) refl
 parts_add _ _ (no_part e) (no_part d) =
-    sum_small _ (zero_part (0 * up e * down d + 0 * up d * down e) (down e * down d) (omega (arith, nothing d e, nothing e d)) (both_pos e d))
+    sum_small _ (zero_part (0 * up e * down d + 0 * up d * down e) (down e * down d)
+    (omega (arith, nothing d e, nothing e d)) (both_pos e d))
 
 part_not_one : (x : Float) → Part x → AtLeast 0 x → ⊥
 part_not_one _ (part m e h) (ge_fin _ _ l) = let p = down_pos e in omega arith
 part_not_one _ (no_part e) x = elim x [ ]
 
-one_less : (m : ℕ) (e : ℤ) → m * up e * 2 ^ 23 ≤ 16777215 * down e → AtLeast 0 (fin false m e) → Part (sub binary32 (fin false m e) (fin false 1 (pos 0)))
+one_less : (m : ℕ) (e : ℤ) → m * up e * 2 ^ 23 ≤ 16777215 * down e → AtLeast 0 (fin false m e)
+    → Part (sub binary32 (fin false m e) (fin false 1 (pos 0)))
 unfolding sub add neg sum
 one_less m e h (ge_fin _ _ l) =
     let a = m * up e * 1 in
@@ -194,20 +210,24 @@ one_less m e h (ge_fin _ _ l) =
 below_one : (m : ℕ) (e : ℤ) → T (fits binary32 (fin false m e)) → NotAtLeast 0 (fin false m e) → Part (fin false m e)
 below_one m e f (nge_fin _ _ l) = part_of_fin m e f (omega arith)
 
-wrap_upto : (x : Float) → T (fits binary32 x) → Upto 16777215 (2 ^ 23) x → Part (cond (le (fin false 1 (pos 0)) x) (sub binary32 x (fin false 1 (pos 0))) x)
+wrap_upto : (x : Float) → T (fits binary32 x) → Upto 16777215 (2 ^ 23) x
+    → Part (cond (le (fin false 1 (pos 0)) x) (sub binary32 x (fin false 1 (pos 0))) x)
 wrap_upto _ f (upto m e h) = go (le (fin false 1 (pos 0)) (fin false m e)) refl
   where
-    go : (b : Bool) → le (fin false 1 (pos 0)) (fin false m e) ≡ b → Part (cond b (sub binary32 (fin false m e) (fin false 1 (pos 0))) (fin false m e))
+    go : (b : Bool) → le (fin false 1 (pos 0)) (fin false m e) ≡ b
+        → Part (cond b (sub binary32 (fin false m e) (fin false 1 (pos 0))) (fin false m e))
     go true l = one_less m e h (at_least 0 (fin false m e) l)
     go false l = below_one m e f (not_at_least 0 (fin false m e) l)
 
-wrap_small : (x : Float) → Part x → (b : Bool) → le (fin false 1 (pos 0)) x ≡ b → Part (cond b (sub binary32 x (fin false 1 (pos 0))) x)
+wrap_small : (x : Float) → Part x → (b : Bool) → le (fin false 1 (pos 0)) x ≡ b
+    → Part (cond b (sub binary32 x (fin false 1 (pos 0))) x)
 wrap_small x p true l = absurd (part_not_one x p (at_least 0 x l))
 wrap_small x p false l = p
 
 upto_two : (n d : ℕ) → 0 < d → n * 2 ^ 23 ≤ 16777215 * d → Upto 16777215 (2 ^ 23) (round binary32 false n d)
 unfolding round
-upto_two n d p h = upto_at 16777215 (negsuc 22) (round binary32 false n d) (round_plus n d) (is_true _ (round_mono binary32 n d 16777215 (2 ^ 23) p (omega arith) h))
+upto_two n d p h = upto_at 16777215 (negsuc 22) (round binary32 false n d) (round_plus n d)
+    (is_true _ (round_mono binary32 n d 16777215 (2 ^ 23) p (omega arith) h))
 
 pub sum_wraps : (x : Float) → Sum x → Part (cond (le (fin false 1 (pos 0)) x) (sub binary32 x (fin false 1 (pos 0))) x)
 sum_wraps _ (sum_small x p) = wrap_small x p (le (fin false 1 (pos 0)) x) refl
@@ -227,10 +247,14 @@ pub product_at_least : (x y : Float) → FromZero x → FromZero y → AtLeastZe
 unfolding mul
 product_at_least _ _ (plus m e) (plus n d) = plus_at_least _ (round_plus (m * up e * (n * up d)) (down e * down d))
 product_at_least _ _ (plus m e) (minus_zero d) =
-    some _ (part_from_zero _ (zero_part (m * up e * (0 * up d)) (down e * down d) (mul_comm (m * up e) (0 * up d) ∙ gone (up d) (m * up e)) (both_pos e d)))
+    some _ (part_from_zero _
+    (zero_part (m * up e * (0 * up d)) (down e * down d) (mul_comm (m * up e) (0 * up d) ∙ gone (up d) (m * up e))
+    (both_pos e d)))
 product_at_least _ _ (minus_zero e) (plus n d) =
-    some _ (part_from_zero _ (zero_part (0 * up e * (n * up d)) (down e * down d) (gone (up e) (n * up d)) (both_pos e d)))
-product_at_least _ _ (minus_zero e) (minus_zero d) = plus_at_least _ (round_plus (0 * up e * (0 * up d)) (down e * down d))
+    some _ (part_from_zero _
+    (zero_part (0 * up e * (n * up d)) (down e * down d) (gone (up e) (n * up d)) (both_pos e d)))
+product_at_least _ _ (minus_zero e) (minus_zero d) =
+    plus_at_least _ (round_plus (0 * up e * (0 * up d)) (down e * down d))
 
 pub below_power : (j : ℕ) (x : Float) → AtLeastZero x → lt x (fin false 1 (pos j)) ≡ true → FromZero x
 unfolding lt
@@ -244,7 +268,8 @@ when_finite _ (some x f) h = f
 -- ---- a number below 2 ^ 31 less its whole part
 
 -- y has R = U - n * E of E parts past n, with F as a common factor
-past : (U E F n Q : ℕ) → Q * 1 ≡ n * F → n * E ≤ U → (U - n * E) * 2 ^ 24 ≤ 16777215 * E → (Q * E ≤ U * F) × ((U * F - Q * E) * 2 ^ 24 ≤ 16777215 * (E * F))
+past : (U E F n Q : ℕ) → Q * 1 ≡ n * F → n * E ≤ U → (U - n * E) * 2 ^ 24 ≤ 16777215 * E → (Q * E ≤ U * F)
+    × ((U * F - Q * E) * 2 ^ 24 ≤ 16777215 * (E * F))
 past U E F n Q v l w =
     let R : ℕ = U - n * E in
     let u : U ≡ n * E + R = omega arith in
@@ -254,7 +279,8 @@ past U E F n Q v l w =
     let x : R * F * 2 ^ 24 ≤ 16777215 * (E * F) = scaled R E F w in
     (omega (arith, a, b), omega (arith, a, b, x))
 
-less_whole : (m : ℕ) (e : ℤ) (z : Float) (n : ℕ) → HasValue z false n 1 → n * down e ≤ m * up e → (m * up e - n * down e) * 2 ^ 24 ≤ 16777215 * down e
+less_whole : (m : ℕ) (e : ℤ) (z : Float) (n : ℕ) → HasValue z false n 1 → n * down e ≤ m * up e
+    → (m * up e - n * down e) * 2 ^ 24 ≤ 16777215 * down e
     → Part (sub binary32 (fin false m e) z)
 unfolding sub add neg sum
 less_whole m e nan n v l w = absurd v
@@ -262,7 +288,8 @@ less_whole m e (inf s) n v l w = absurd v
 less_whole m e (fin true q d) n v l w = on v.0
 less_whole m e (fin false q d) n v l w =
     let p = past (m * up e) (down e) (down d) n (q * up d) v.1 l w in
-    rw (le-ltb (m * up e * down d) (q * up d * down e) p.0) (rounded_part (m * up e * down d - q * up d * down e) (down e * down d) (both_pos e d) p.1)
+    rw (le-ltb (m * up e * down d) (q * up d * down e) p.0)
+    (rounded_part (m * up e * down d - q * up d * down e) (down e * down d) (both_pos e d) p.1)
 
 over_one : (n : ℕ) → n / 1 ≡ n
 over_one n = omega arith
@@ -272,10 +299,14 @@ unfolding of_int
 small_whole n h = round_whole binary32 false n (omega arith)
 
 -- the whole part of a number below 2 ^ 31 is an f32
-whole_value : (m : ℕ) (e : ℤ) → m < 2 ^ 24 → m * up e < 2 ^ 31 * down e → HasValue (of_int binary32 (pos (m * up e / down e))) false (m * up e / down e) 1
-whole_value m (pos k) f h = subst (λ (n : ℕ). HasValue (of_int binary32 (pos n)) false n 1) (sym (over_one (m * 2 ^ k))) (whole_exact m k f (omega arith))
+whole_value : (m : ℕ) (e : ℤ) → m < 2 ^ 24 → m * up e < 2 ^ 31 * down e
+    → HasValue (of_int binary32 (pos (m * up e / down e))) false (m * up e / down e) 1
+whole_value m (pos k) f h =
+    subst (λ (n : ℕ). HasValue (of_int binary32 (pos n)) false n 1) (sym (over_one (m * 2 ^ k)))
+    (whole_exact m k f (omega arith))
 whole_value m (negsuc k) f h =
-    small_whole (m * 1 / 2 ^ suc k) ((div-lt_iff_lt-mul (pow_pos (suc k))).1 (let p = mul-le-mul_left (2 ^ 24) (pow_pos (suc k)) in omega arith))
+    small_whole (m * 1 / 2 ^ suc k)
+    ((div-lt_iff_lt-mul (pow_pos (suc k))).1 (let p = mul-le-mul_left (2 ^ 24) (pow_pos (suc k)) in omega arith))
 
 -- what is left has at most 24 digits
 rest_digits : (m : ℕ) (e : ℤ) (r : ℕ) → m < 2 ^ 24 → r < down e → r ≤ m * up e → r < 2 ^ 24
@@ -298,9 +329,11 @@ no_whole e =
 
 minus_zero_less : (e : ℤ) → Part (sub binary32 (fin true 0 e) (of_int binary32 (pos 0)))
 unfolding sub add neg sum of_int
-minus_zero_less e = zero_part (0 * up e * 1 + 0 * 1 * down e) (down e * 1) (omega arith) (let p = down_pos e in omega arith)
+minus_zero_less e = zero_part (0 * up e * 1 + 0 * 1 * down e) (down e * 1) (omega arith)
+    (let p = down_pos e in omega arith)
 
-pub past_whole_lem : (x : Float) → T (fits binary32 x) → FromZero x → lt x (fin false 1 (pos 31)) ≡ true → Part (sub binary32 x (of_int binary32 (to_signed 31 x)))
+pub past_whole_lem : (x : Float) → T (fits binary32 x) → FromZero x → lt x (fin false 1 (pos 31)) ≡ true
+    → Part (sub binary32 x (of_int binary32 (to_signed 31 x)))
 past_whole_lem _ f (minus_zero e) h = rw (no_whole e) (minus_zero_less e)
 past_whole_lem _ f (plus m e) h =
     let b = under_whole m e (under 31 (fin false m e) h) in
@@ -308,5 +341,7 @@ past_whole_lem _ f (plus m e) h =
     let g : n * down e + m * up e % down e ≡ m * up e = div-add-mod' (m * up e) (down e) in
     let r = mod-lt (m * up e) (down_pos e) in
     let d = digits_lt m e f in
-    let w : (m * up e - n * down e) * 2 ^ 24 ≤ 16777215 * down e = short_of_one (m * up e - n * down e) (down e) (omega arith) (rest_digits m e (m * up e - n * down e) d (omega arith) (omega arith)) in
+    let w : (m * up e - n * down e) * 2 ^ 24 ≤ 16777215 * down e =
+    short_of_one (m * up e - n * down e) (down e) (omega arith)
+    (rest_digits m e (m * up e - n * down e) d (omega arith) (omega arith)) in
     rw (whole_is m e b) (less_whole m e (of_int binary32 (pos n)) n (whole_value m e d b) (omega arith) w)

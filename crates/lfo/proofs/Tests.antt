@@ -6,7 +6,8 @@ use lib.Ieee.{Float, nan, inf, fin, lt, le, eq}
 use lib.Ieee.Scale.{finite}
 
 -- below infinity and at least 0 is finite and at least 0
-pub under_infinity : (x : Float) → (le (fin false 0 (pos 0)) x && lt x (inf false)) ≡ (le (fin false 0 (pos 0)) x && finite x)
+pub under_infinity : (x : Float) → (le (fin false 0 (pos 0)) x && lt x (inf false))
+    ≡ (le (fin false 0 (pos 0)) x && finite x)
 unfolding le lt eq
 under_infinity nan = refl
 under_infinity (inf true) = refl

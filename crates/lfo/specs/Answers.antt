@@ -77,7 +77,8 @@ unfoldable pub step_answer : List Float → Lfo → ℕ → Float → Moved
 step_answer lut lfo state scale = move_answer lfo state (step_fits lfo scale) (settled lut (stepped lfo state scale))
 
 unfoldable pub scrub_answer : List Float → Lfo → ℕ → Float → Moved
-scrub_answer lut lfo state sample = move_answer lfo state (scrub_fits lfo sample) (settled lut (scrubbed lfo state sample))
+scrub_answer lut lfo state sample =
+    move_answer lfo state (scrub_fits lfo sample) (settled lut (scrubbed lfo state sample))
 
 -- a value read from an LFO
 unfoldable pub read_answer : Lfo → Float → Read

@@ -8,15 +8,18 @@ use Rattle.numbers.specs.F32.{◌⊖◌, ◌⊗◌}
 use Rattle.random.specs.declared.Drawn.{Drawn}
 use Rattle.lfo_inner.specs.declared.Lfo.{Lfo}
 use Rattle.lfo_inner.specs.declared.Motion.{Motion}
-use Rattle.lfo_inner.specs.Lfo.{rebuilt, moved_to, drawn_if, delay_scrubbed, first_of, second_of, whole_changed, scrubbed}
+use Rattle.lfo_inner.specs.Lfo.{rebuilt, moved_to, drawn_if, delay_scrubbed, first_of, second_of, whole_changed}
+use Rattle.lfo_inner.specs.Lfo.{scrubbed}
 
 -- the LFO with another whole part, as a store to that field leaves it
 abbrev pub whole_stored : Lfo → ℤ → Lfo
 whole_stored lfo whole = rebuilt lfo lfo.phase lfo.delay_phase lfo.value lfo.random_value whole
 
 -- the whole part n stands at three places, each read back from its bits
-pub scrubbed_from : (lfo : Lfo) (state : ℕ) (sample : Float) {n u v w k : ℤ} {z t : Float} {b : Bool} {d : Drawn} {l : Lfo}
-    → n ≡ to_signed 31 (sample ⊗ lfo.frequency) → u ≡ n → v ≡ n → k ≡ n → w ≡ lfo.phase_integral → z ≡ of_int binary32 u → b ≡ whole_changed v w
+pub scrubbed_from : (lfo : Lfo) (state : ℕ) (sample : Float) {n u v w k : ℤ} {z t : Float} {b : Bool} {d : Drawn}
+    {l : Lfo}
+    → n ≡ to_signed 31 (sample ⊗ lfo.frequency) → u ≡ n → v ≡ n → k ≡ n → w ≡ lfo.phase_integral → z
+        ≡ of_int binary32 u → b ≡ whole_changed v w
     → d ≡ drawn_if b lfo.random_value state → t ≡ delay_scrubbed (first_of lfo) (second_of lfo) sample
     → l ≡ moved_to lfo (sample ⊗ lfo.frequency ⊖ z) d.value t lfo.phase_integral
     → ◌≡◌ {A = Motion} (record { lfo = whole_stored l k; state = d.state }) (scrubbed lfo state sample)

@@ -8,7 +8,8 @@ use Rattle.lfo_inner.specs.declared.Waveform.{Waveform}
 use Rattle.lfo_inner.specs.declared.Waveform.TheVariants.{Triangle, RampDown, RampUp, Square, Sine, SAndH}
 use Rattle.lfo_inner.specs.Lfo.{sine_wave, wave_of, is_sine}
 
-pub sine_at : (lut : List Float) (w : Waveform) (phase last : Float) → is_sine w ≡ true → sine_wave lut phase ≡ wave_of lut w phase last
+pub sine_at : (lut : List Float) (w : Waveform) (phase last : Float) → is_sine w ≡ true → sine_wave lut phase
+    ≡ wave_of lut w phase last
 unfolding is_sine wave_of
 sine_at lut Triangle phase last h = no h
 sine_at lut RampDown phase last h = no h

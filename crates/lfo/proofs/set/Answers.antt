@@ -23,4 +23,9 @@ set-requires c =
 pub returns : goal.returns
 unfolding set_answer
 returns c =
-    simp (sym c.state_fits.ensures ∙ c.if-not-state_fits.false, sym c.modulations_fit.ensures ∙ c.if-not-modulations_fit.false, c.set.ensures)
+    simp (
+      sym c.state_fits.ensures ∙ c.if-not-state_fits.false,
+      sym c.modulations_fit.ensures
+          ∙ c.if-not-modulations_fit.false,
+      c.set.ensures,
+    )
