@@ -4,7 +4,7 @@ use mathlib.Core.Path.{◌≡◌, refl}
 use mathlib.Core.Bool.{Bool, true, false}
 use mathlib.Core.List.{List, [], ◌∷◌}
 use Prim.Native.Nat.{ℕ}
-use borrow.Author.Tests.{eq-eqb, ne_eqb}
+use borrow.Author.Tests.{ne_eqb}
 use Rattle.patch.specs.declared.Patch.{Patch}
 use Rattle.patch.specs.Form.{zero_patch}
 use Rattle.patch.specs.Packed.{patch_fits}
@@ -23,9 +23,10 @@ module _ (v : Voice) (p : Patch) (c : Compiled) where
   unfolding loaded
   load_refused h = simp (ne_eqb c.number 0 h)
 
-  pub load_accepted : c.number ≡ 0 → {w : Voice} → w ≡ with_patch v true p c.row c.plan → record { number = 0; at = c.at; voice = w } ≡ loaded v p c
+  pub load_accepted : c.number ≡ 0 → {w : Voice} → w ≡ with_patch v true p c.row c.plan
+      → record { number = 0; at = c.at; voice = w } ≡ loaded v p c
   unfolding loaded
-  load_accepted h e = simp (eq-eqb c.number 0 h, h, e)
+  load_accepted h e = simp (h, e)
 
 module _ (v : Voice) (p : Patch) (table : List ℕ) where
   pub set_patch_9 : state_fits v ≡ false → not_loaded 9 v ≡ set_patch_answer v p table
@@ -37,7 +38,8 @@ module _ (v : Voice) (p : Patch) (table : List ℕ) where
     unfolding set_patch_answer
     set_patch_6 h = rw (state, h) refl
 
-    pub set_patch_on : patch_fits p ≡ true → {c : Compiled} {r : Loaded} → c ≡ compiled v.operators table p.algorithm → r ≡ loaded v p c
+    pub set_patch_on : patch_fits p ≡ true → {c : Compiled} {r : Loaded} → c ≡ compiled v.operators table p.algorithm
+        → r ≡ loaded v p c
         → r ≡ set_patch_answer v p table
     unfolding set_patch_answer
     set_patch_on h ec er = rw (state, h, er, ec) refl
@@ -47,7 +49,8 @@ module _ (v : Voice) where
   unfolding take_patch_answer
   take_patch_9 h = rw h refl
 
-  pub take_patch_on : state_fits v ≡ true → {w : Voice} {p : Patch} {plan : Plan} → p ≡ zero_patch → plan ≡ no_plan → w ≡ with_patch v false p (0 ∷ 0 ∷ 0 ∷ 0 ∷ 0 ∷ 0 ∷ []) plan
+  pub take_patch_on : state_fits v ≡ true → {w : Voice} {p : Patch} {plan : Plan} → p ≡ zero_patch → plan ≡ no_plan
+      → w ≡ with_patch v false p (0 ∷ 0 ∷ 0 ∷ 0 ∷ 0 ∷ 0 ∷ []) plan
       → prepared 0 w ≡ take_patch_answer v
   unfolding take_patch_answer without_patch six
   take_patch_on h ep el ew = rw (h, ew, ep, el) refl

@@ -22,7 +22,8 @@ module _ (operators : ℕ) (p : Patch) (row : List ℕ) (plan : Plan) where
   unfolding patch_sound
   no_patch_lem h = simp h
 
-  pub same_as_row : patch_fits p ≡ true → {b : Bool} → b ≡ is_plan_of operators row plan → b ≡ patch_sound operators p row plan
+  pub same_as_row : patch_fits p ≡ true → {b : Bool} → b ≡ is_plan_of operators row plan
+      → b ≡ patch_sound operators p row plan
   unfolding patch_sound
   same_as_row h e = simp (h, e)
 
@@ -44,7 +45,8 @@ module _ (v : Voice) where
       no_pitch h = simp (count, stages, lt-leb v.pitch_envelope.stage 3 h)
 
       module _ (pitch : v.pitch_envelope.stage ≤ 3) where
-        pub with_patch_lem : v.has_patch ≡ true → {b : Bool} → b ≡ patch_sound v.operators v.patch v.row v.plan → b ≡ state_fits v
+        pub with_patch_lem : v.has_patch ≡ true → {b : Bool} → b ≡ patch_sound v.operators v.patch v.row v.plan
+            → b ≡ state_fits v
         unfolding state_fits
         with_patch_lem h e = simp (count, stages, le-leb v.pitch_envelope.stage 3 pitch, h, e)
 
@@ -59,14 +61,19 @@ pub record Sound (operators : ℕ) (p : Patch) (row : List ℕ) (plan : Plan) : 
   pub accepted : (planned operators row).number ≡ 0
   pub same : plan ≡ (planned operators row).plan
 
-pub patch_sound_lem : (operators : ℕ) (p : Patch) (row : List ℕ) (plan : Plan) → T (patch_sound operators p row plan) → Sound operators p row plan
+pub patch_sound_lem : (operators : ℕ) (p : Patch) (row : List ℕ) (plan : Plan) → T (patch_sound operators p row plan)
+    → Sound operators p row plan
 unfolding patch_sound is_plan_of
 patch_sound_lem operators p row plan t =
     let a = patch_fits p in
     let b = eqb (planned operators row).number 0 in
     let c = same_plan plan (planned operators row).plan in
     let rest = and_r a (b && c) t in
-    record { fits = and_l a (b && c) t; accepted = eqb-true _ _ (is_true b (and_l b c rest)); same = same_plan_equal _ _ (is_true c (and_r b c rest)) }
+    record {
+      fits = and_l a (b && c) t;
+      accepted = eqb-true _ _ (is_true b (and_l b c rest));
+      same = same_plan_equal _ _ (is_true c (and_r b c rest));
+    }
   where
     is_true : (b : Bool) → T b → b ≡ true
     is_true true t = refl
@@ -97,7 +104,9 @@ state_fits_lem v t =
 -- a patch that is there is sound
 pub stored : (v : Voice) → T (state_fits v) → v.has_patch ≡ true → Sound v.operators v.patch v.row v.plan
 stored v t h =
-    patch_sound_lem _ _ _ _ (subst (λ (b : Bool). T (cond b (patch_sound v.operators v.patch v.row v.plan) v.dirty)) h (state_fits_lem v t).patched)
+    patch_sound_lem _ _ _ _
+    (subst (λ (b : Bool). T (cond b (patch_sound v.operators v.patch v.row v.plan) v.dirty)) h
+    (state_fits_lem v t).patched)
 
 -- a clean voice has a patch
 pub clean_has : (v : Voice) → T (state_fits v) → v.dirty ≡ false → v.has_patch ≡ true
@@ -106,4 +115,5 @@ clean_has v t d = go v.has_patch refl
     go : (b : Bool) → v.has_patch ≡ b → v.has_patch ≡ true
     go true h = h
     go false h =
-        absurd (subst T d (subst (λ (b : Bool). T (cond b (patch_sound v.operators v.patch v.row v.plan) v.dirty)) h (state_fits_lem v t).patched))
+        absurd (subst T d (subst (λ (b : Bool). T (cond b (patch_sound v.operators v.patch v.row v.plan) v.dirty)) h
+        (state_fits_lem v t).patched))

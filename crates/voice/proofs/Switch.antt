@@ -43,7 +43,8 @@ module _ (v : Voice) where
       set : Bool → Loaded
       set b = record { number = c.number; at = c.at; voice = cond b (with_patch v true p c.row c.plan) v }
 
-      go : (a b d : Bool) → (cond a (cond b (set d) (not_loaded 6 v)) (not_loaded 9 v)).voice.transposing ≡ v.transposing
+      go : (a b d : Bool) → (cond a (cond b (set d) (not_loaded 6 v)) (not_loaded 9 v)).voice.transposing
+          ≡ v.transposing
       go true true true = refl
       go true true false = refl
       go true false d = refl

@@ -1,10 +1,9 @@
 -- Tests of the code, in the definitions' words. Assumes nothing.
 use mathlib.Core.Path.{◌≡◌, refl, sym, ◌∙◌}
-use mathlib.Core.Bool.{Bool, true, false, not}
+use mathlib.Core.Bool.{Bool, true, false}
 use mathlib.Core.List.{List, [], ◌∷◌}
 use Prim.Native.Nat.{ℕ}
 use native.Mathlib.Omega.{arith}
-use borrow.Author.Tests.{not-true, not-false}
 use lib.Dec.{leb}
 use lib.ListN.{length}
 use mathlib.Core.Bool.{◌&&◌, and_assoc, and-true}
@@ -16,11 +15,11 @@ use Rattle.voice_setup.specs.Setup.{envelope_at}
 
 -- a refusal's test s, as a call gives it in u
 module _ {u s : Bool} (e : u ≡ s) where
-  pub refused : not u ≡ true → s ≡ false
-  refused h = sym e ∙ not-true u h
+  pub refused : u ≡ false → s ≡ false
+  refused h = sym e ∙ h
 
-  pub accepted : not u ≡ false → s ≡ true
-  accepted h = sym e ∙ not-false u h
+  pub accepted : u ≡ true → s ≡ true
+  accepted h = sym e ∙ h
 
 -- a patch's check as a number
 module _ (p : Patch) {n : ℕ} (e : n ≡ check_of p) where
@@ -44,7 +43,8 @@ module _ (p : Patch) {n : ℕ} (e : n ≡ check_of p) where
 abbrev fit : List Envelope → ℕ → Bool
 fit es i = leb (envelope_at es i).stage 3
 
-pub six_stages : (es : List Envelope) → length es ≡ 6 → (fit es 0 && fit es 1 && fit es 2 && fit es 3 && fit es 4 && fit es 5) ≡ all_stages es
+pub six_stages : (es : List Envelope) → length es ≡ 6
+    → (fit es 0 && fit es 1 && fit es 2 && fit es 3 && fit es 4 && fit es 5) ≡ all_stages es
 unfolding all_stages
 six_stages (a ∷ b ∷ c ∷ d ∷ e ∷ f ∷ []) h = simp (and_assoc, and-true)
 six_stages [] h = absurd (omega arith)

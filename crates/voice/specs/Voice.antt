@@ -48,7 +48,8 @@ voice_with operators sampleRate oneHz a0 =
 
 -- a fresh voice: 1 Hz and the A of 55 Hz in turns a sample
 unfoldable pub fresh_voice : ℕ → Float → Voice
-fresh_voice operators sampleRate = voice_with operators sampleRate (decimal 1 0 ⊘ sampleRate) (decimal 55 0 ⊘ sampleRate)
+fresh_voice operators sampleRate =
+    voice_with operators sampleRate (decimal 1 0 ⊘ sampleRate) (decimal 55 0 ⊘ sampleRate)
 
 -- what a refused start hands back: a voice of no operators
 unfoldable pub no_voice : Voice
