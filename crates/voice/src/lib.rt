@@ -8,8 +8,7 @@ ghost use Rattle.std.specs.Prelude.{◌≡◌};
 ghost use Rattle.envelope_inner.specs.Envelope.{all_stages};
 ghost use Rattle.voice.specs.Voice.{voice_with, with_patch, with_switch};
 ghost use Rattle.voice.specs.Answers.{patch_sound, state_fits, init_answer, loaded, set_patch_answer};
-ghost use Rattle.voice.specs.Answers.{take_patch_answer};
-ghost use Rattle.voice.specs.Answers.{patch_answer, set_transposing_answer};
+ghost use Rattle.voice.specs.Answers.{take_patch_answer, patch_answer, set_transposing_answer};
 
 use algorithms::{Compiled, Plan};
 use dx_units_inner::Ratio;
