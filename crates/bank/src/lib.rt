@@ -108,7 +108,7 @@ impl<'a> Reader<'a> {
 
 // A slot's part by way of a reader, for every other caller: plain parameters.
 pub fn read<'a>(dump: &'a [u8], slot: usize) -> &'a [u8]
-    ensures { Handed dump.entry slot result }
+    ensures handed { Handed dump.entry slot result }
 {
     Reader::new(dump, slot).part()
 }
