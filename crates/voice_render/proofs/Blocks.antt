@@ -20,7 +20,6 @@ use Rattle.patch_limits.proofs.Within.{patch_fits_lem}
 use Rattle.algorithms.specs.Plan.{counted}
 use Rattle.envelope_inner.specs.declared.Envelope.{Envelope}
 use Rattle.envelope_inner.specs.Set.{pitch_set}
-use Rattle.dx_units_step.specs.declared.Marked.{Marked}
 use Rattle.operator.specs.declared.Operator.{Operator}
 use Rattle.voice_block.specs.declared.Operators.{Operators}
 use Rattle.voice_block.specs.Calls.{ran}
@@ -59,7 +58,15 @@ operators_of p t =
     let g = leb p.transpose 48 in
     let h = name_fits p.name in
     let i = eqb p.active_operators 63 in
-    and_l a b (and_l (a && b) b' (and_l (a && b && b') c (and_l (a && b && b' && c) d (and_l (a && b && b' && c && d) e (and_l (a && b && b' && c && d && e) f (and_l (a && b && b' && c && d && e && f) g (and_l (a && b && b' && c && d && e && f && g) h (and_l (a && b && b' && c && d && e && f && g && h) i (subst T (patch_fits_lem p) t)))))))))
+    and_l a b
+    (and_l (a && b) b'
+    (and_l (a && b && b') c
+    (and_l (a && b && b' && c) d
+    (and_l (a && b && b' && c && d) e
+    (and_l (a && b && b' && c && d && e) f
+    (and_l (a && b && b' && c && d && e && f) g
+    (and_l (a && b && b' && c && d && e && f && g) h
+    (and_l (a && b && b' && c && d && e && f && g && h) i (subst T (patch_fits_lem p) t)))))))))
 
 pub count_at_most_6 : (n : ℕ) → T (counted n) → n ≤ 6
 unfolding counted
@@ -100,7 +107,9 @@ module _ (high low : List Float) (v : Voice) where
       → w ≡ set_up high low v
   unfolding set_up
   set_up_lem h ee es ew =
-      let made = with_setup v (pitch_set v.pitch_envelope v.patch.pitch_envelope.rate v.patch.pitch_envelope.level) (set_up_to high low v.patch.op v.operators (setup_of v)) in
+      let made =
+      with_setup v (pitch_set v.pitch_envelope v.patch.pitch_envelope.rate v.patch.pitch_envelope.level)
+      (set_up_to high low v.patch.op v.operators (setup_of v)) in
       rw (ew, ee, es) (sym (ap (λ (b : Bool). cond b made v) h))
 
   pub setup_9 : state_fits v ≡ false → readied 9 false v ≡ setup_answer high low v
@@ -128,15 +137,18 @@ setup_tables v eh el e = rw (eh, el) at e
 -- ---- a block
 
 module _ (v : Voice) (p : VoiceParameters) {u : Bool} (e : u ≡ note_on v p) where
-  pub struck_now : (u || p.sustain) ≡ true → {x : Float} → x ≡ normalized_velocity_of p.velocity → record { note = p.note; normalized_velocity = x } ≡ struck v p
+  pub struck_now : (u || p.sustain) ≡ true → {x : Float} → x ≡ normalized_velocity_of p.velocity
+      → record { note = p.note; normalized_velocity = x } ≡ struck v p
   unfolding struck
   struck_now h ex = rw (sym e, h, ex) refl
 
-  pub struck_before : (u || p.sustain) ≡ false → record { note = v.note; normalized_velocity = v.normalized_velocity } ≡ struck v p
+  pub struck_before : (u || p.sustain) ≡ false
+      → record { note = v.note; normalized_velocity = v.normalized_velocity } ≡ struck v p
   unfolding struck
   struck_before h = rw (sym e, h) refl
 
-  pub entering_anew : (u && not (eqb v.patch.reset_phase 0)) ≡ true → {os : List Operator} → os ≡ all_restarted v.operator → os ≡ entering v p
+  pub entering_anew : (u && not (eqb v.patch.reset_phase 0)) ≡ true → {os : List Operator}
+      → os ≡ all_restarted v.operator → os ≡ entering v p
   unfolding entering
   entering_anew h eo = rw (sym e, h, eo) refl
 
@@ -145,7 +157,8 @@ module _ (v : Voice) (p : VoiceParameters) {u : Bool} (e : u ≡ note_on v p) wh
   entering_on h = rw (sym e, h) refl
 
 pub all_restarted_lem : (os : List Operator) {a b c d e f : Operator}
-    → a ≡ restarted_at os 0 → b ≡ restarted_at os 1 → c ≡ restarted_at os 2 → d ≡ restarted_at os 3 → e ≡ restarted_at os 4 → f ≡ restarted_at os 5
+    → a ≡ restarted_at os 0 → b ≡ restarted_at os 1 → c ≡ restarted_at os 2 → d ≡ restarted_at os 3
+    → e ≡ restarted_at os 4 → f ≡ restarted_at os 5
     → a ∷ b ∷ c ∷ d ∷ e ∷ f ∷ [] ≡ all_restarted os
 unfolding all_restarted
 all_restarted_lem os ea eb ec ed ee ef = rw (ea, eb, ec, ed, ee, ef) refl
@@ -177,7 +190,9 @@ module _ (pairs high low : List Float) (v : Voice) (p : VoiceParameters) (block 
       → b ≡ begun high low v p (length block / 4)
       → l ≡ leveled_to b.scene v.patch.op v.ratios v.level_headroom v.row v.operator_envelope v.operators
       → os ≡ entering v p
-      → record { operators = r; block = out } ≡ ran pairs v.plan l.steps l.amplitudes v.patch.feedback (record { operator = os; feedback_state = v.feedback_state }) block
+      → record { operators = r; block = out }
+      ≡ ran pairs v.plan l.steps l.amplitudes v.patch.feedback
+      (record { operator = os; feedback_state = v.feedback_state }) block
       → d.number ≡ 0
       → d.marks ≡ cond (eqb (length block / 4) 0) all_as_asked l.marks
       → d.voice ≡ after v p b l r
@@ -215,7 +230,8 @@ module _ (pairs high low : List Float) (v : Voice) (p : VoiceParameters) (block 
         either b =
             cond b (unsounded 0 (set_up high low v) block) (sounding (sounded pairs high low v (played_by v p) block))
 
-        pub render_blank : v.dirty ≡ true → {w : Voice} → w ≡ set_up high low v → unsounded 0 w block ≡ render_answer pairs high low v p block
+        pub render_blank : v.dirty ≡ true → {w : Voice} → w ≡ set_up high low v
+            → unsounded 0 w block ≡ render_answer pairs high low v p block
         unfolding render_answer either
         render_blank h e = rw (state, size, fits, e) (sym (ap either h))
 
@@ -228,6 +244,7 @@ module _ (pairs high low : List Float) (v : Voice) (p : VoiceParameters) (block 
 
 -- with the tables made for one block
 pub with_tables : (v : Voice) (p : VoiceParameters) (block : List Float) {a : Answered} {pairs high low : List Float}
-    → pairs ≡ sine_pairs → high ≡ lut_pitch_ratio_high → low ≡ lut_pitch_ratio_low → a ≡ render_answer pairs high low v p block
+    → pairs ≡ sine_pairs → high ≡ lut_pitch_ratio_high → low ≡ lut_pitch_ratio_low
+    → a ≡ render_answer pairs high low v p block
     → a ≡ render_answer sine_pairs lut_pitch_ratio_high lut_pitch_ratio_low v p block
 with_tables v p block es eh el e = rw (es, eh, el) at e

@@ -54,7 +54,8 @@ module _ (pairs high low : List Float) (v : Voice) where
   setup_switch = go (state_fits v) v.dirty
     where
       go : (b c : Bool)
-          → (cond b (cond c (readied 0 true (set_up high low v)) (readied 0 false v)) (readied 9 false v)).voice.transposing ≡ v.transposing
+          → (cond b (cond c (readied 0 true (set_up high low v)) (readied 0 false v))
+          (readied 9 false v)).voice.transposing ≡ v.transposing
       go true true = set_up_switch
       go true false = refl
       go false c = refl

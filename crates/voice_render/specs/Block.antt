@@ -73,8 +73,8 @@ restarted_at os i = restarted (get_or os i no_operator)
 
 unfoldable pub all_restarted : List Operator → List Operator
 all_restarted os =
-    restarted_at os 0 ∷ restarted_at os 1 ∷ restarted_at os 2 ∷ restarted_at os 3 ∷ restarted_at os 4 ∷ restarted_at os 5
-    ∷ []
+    restarted_at os 0 ∷ restarted_at os 1 ∷ restarted_at os 2 ∷ restarted_at os 3 ∷ restarted_at os 4
+    ∷ restarted_at os 5 ∷ []
 
 -- the operators that enter a block: phases start anew at a note-on whose patch asks for it
 unfoldable pub entering : Voice → VoiceParameters → List Operator
