@@ -1,5 +1,6 @@
 -- Which patches have an identifier: those that 6 names neither for the voice nor for the LFO. Assumes nothing.
-use Rattle.std.proofs.Common.{◌≡◌, ℕ, zero, suc, ◌<◌, Bool, true, false, cond, ◌&&◌, T, eqb, leb, sym, refl, ap, ◌∙◌, subst, arith, leb→le, eqb-true}
+use Rattle.std.proofs.Common.{◌≡◌, ℕ, zero, suc, ◌<◌, Bool, true, false, cond, ◌&&◌, T, eqb, leb, sym, refl, ap, ◌∙◌}
+use Rattle.std.proofs.Common.{subst, arith, leb→le, eqb-true}
 use borrow.Author.Tests.{eqb-false}
 use lib.Ieee.{lt, le}
 use lib.Ieee.Fits.{and_l, and_r}
@@ -10,7 +11,8 @@ use Rattle.patch.specs.Layout.{patch_sensitivity, lfo_sensitivity}
 use Rattle.patch.specs.Packed.{patch_fits, operators_fit, stages_fit, modulations_fit, name_fits}
 use Rattle.patch_limits.proofs.Within.{patch_fits_lem}
 use Rattle.algorithms.specs.Opcode.{destination, adding, source, flagged}
-use Rattle.algorithms.specs.Chain.{last_operator, unmet, ends, grown, reused, chained, origin_from, modulation, known, renders, call_length, rendered}
+use Rattle.algorithms.specs.Chain.{last_operator, unmet, ends, grown, reused, chained, origin_from, modulation, known}
+use Rattle.algorithms.specs.Chain.{renders, call_length, rendered}
 use Rattle.algorithms.specs.Plan.{call_of, reading, ready, unready, extended, plan_from, counted, planned}
 use Rattle.algorithms.specs.Table.{six, tabled, row_of, with_row, compiled}
 use Rattle.algorithms_opcodes.specs.Opcodes.{six_operators}
@@ -30,8 +32,8 @@ rows_accepted zero = true
 rows_accepted (suc n) = eqb (compiled 6 six_operators n).number 0 && rows_accepted n
 
 all_accepted : rows_accepted 32 ≡ true
-unfolding rows_accepted destination adding source flagged last_operator unmet ends grown reused chained origin_from modulation known renders call_length rendered
-    call_of reading ready unready extended plan_from counted planned six tabled row_of with_row compiled
+unfolding rows_accepted destination adding source flagged last_operator unmet ends grown reused chained origin_from
+    modulation known renders call_length rendered call_of reading ready unready extended plan_from counted planned six tabled row_of with_row compiled
 all_accepted = refl
 
 is_true : (b : Bool) → T b → b ≡ true
@@ -43,9 +45,11 @@ unfolding rows_accepted
 row_accepted_lem zero a t h = omega arith
 row_accepted_lem (suc n) a t h =
     let head = eqb (compiled 6 six_operators n).number 0 in
-    go (eqb a n) refl (eqb-true _ 0 (is_true head (and_l head (rows_accepted n) t))) (λ k. row_accepted_lem n a (and_r head (rows_accepted n) t) k)
+    go (eqb a n) refl (eqb-true _ 0 (is_true head (and_l head (rows_accepted n) t)))
+    (λ k. row_accepted_lem n a (and_r head (rows_accepted n) t) k)
   where
-    go : (b : Bool) → eqb a n ≡ b → (compiled 6 six_operators n).number ≡ 0 → (a < n → (compiled 6 six_operators a).number ≡ 0) → (compiled 6 six_operators a).number ≡ 0
+    go : (b : Bool) → eqb a n ≡ b → (compiled 6 six_operators n).number ≡ 0
+        → (a < n → (compiled 6 six_operators a).number ≡ 0) → (compiled 6 six_operators a).number ≡ 0
     go true e here before = ap (λ (k : ℕ). (compiled 6 six_operators k).number) (eqb-true a n e) ∙ here
     go false e here before = let z = eqb-false a n e in before (omega arith)
 
@@ -62,12 +66,20 @@ algorithm_of p t =
     let h = leb p.transpose 48 in
     let i = name_fits p.name in
     let j = eqb p.active_operators 63 in
-    let fits = and_r (a && b && c) d (and_l (a && b && c && d) e (and_l (a && b && c && d && e) f (and_l (a && b && c && d && e && f) g (and_l (a && b && c && d && e && f && g) h (and_l (a && b && c && d && e && f && g && h) i (and_l (a && b && c && d && e && f && g && h && i) j (subst T (patch_fits_lem p) t))))))) in
+    let fits =
+    and_r (a && b && c) d
+    (and_l (a && b && c && d) e
+    (and_l (a && b && c && d && e) f
+    (and_l (a && b && c && d && e && f) g
+    (and_l (a && b && c && d && e && f && g) h
+    (and_l (a && b && c && d && e && f && g && h) i
+    (and_l (a && b && c && d && e && f && g && h && i) j (subst T (patch_fits_lem p) t))))))) in
     let most = leb→le p.algorithm 31 fits in
     omega arith
 
 voice_fresh : voice.state_fits (voice.init_answer 6 (decimal 48000 0)).voice ≡ true
-unfolding voice.state_fits voice.init_answer sample_rate_fits decimal le lt counted fresh_voice voice_with all_stages initialised
+unfolding voice.state_fits voice.init_answer sample_rate_fits decimal le lt counted fresh_voice voice_with all_stages
+    initialised
 voice_fresh = refl
 
 voice_six : (voice.init_answer 6 (decimal 48000 0)).voice.operators ≡ 6
@@ -81,13 +93,16 @@ lfo_fresh = refl
 module _ (v : Voice) (p : Patch) (state : voice.state_fits v ≡ true) where
   patch_taken : v.operators ≡ 6 → patch_fits p ≡ true → (voice.set_patch_answer v p six_operators).number ≡ 0
   unfolding voice.set_patch_answer voice.loaded
-  patch_taken six fits = rw (state, fits, six) (row_accepted_lem 32 p.algorithm (subst T (sym all_accepted) tt) (algorithm_of p (subst T (sym fits) tt)))
+  patch_taken six fits =
+      rw (state, fits, six)
+      (row_accepted_lem 32 p.algorithm (subst T (sym all_accepted) tt) (algorithm_of p (subst T (sym fits) tt)))
 
   patch_refused : patch_fits p ≡ false → (voice.set_patch_answer v p six_operators).number ≡ 6
   unfolding voice.set_patch_answer
   patch_refused fits = rw (state, fits) refl
 
-modulations_taken : (l : Lfo) (m : ModulationParameters) → lfo.state_fits l ≡ true → (lfo.set_answer l m).number ≡ cond (modulations_fit m lfo_sensitivity) 0 6
+modulations_taken : (l : Lfo) (m : ModulationParameters) → lfo.state_fits l ≡ true
+    → (lfo.set_answer l m).number ≡ cond (modulations_fit m lfo_sensitivity) 0 6
 unfolding lfo.set_answer
 modulations_taken l m state = rw state (go (modulations_fit m lfo_sensitivity))
   where
@@ -96,10 +111,12 @@ modulations_taken l m state = rw state (go (modulations_fit m lfo_sensitivity))
     go false = refl
 
 -- a patch in range with a sensitivity that an LFO takes has an identifier; any other gets 6
-pub number_of : (p : Patch) → (identity_of p).number ≡ cond (patch_fits p && modulations_fit p.modulations lfo_sensitivity) 0 6
+pub number_of : (p : Patch)
+    → (identity_of p).number ≡ cond (patch_fits p && modulations_fit p.modulations lfo_sensitivity) 0 6
 unfolding identity_of readied
 number_of p = go (patch_fits p) refl
   where
-    go : (b : Bool) → patch_fits p ≡ b → (readied p).number ≡ cond (patch_fits p && modulations_fit p.modulations lfo_sensitivity) 0 6
+    go : (b : Bool) → patch_fits p ≡ b
+        → (readied p).number ≡ cond (patch_fits p && modulations_fit p.modulations lfo_sensitivity) 0 6
     go true e = rw (patch_taken _ p voice_fresh voice_six e, modulations_taken _ p.modulations lfo_fresh, e) refl
     go false e = rw (patch_refused _ p voice_fresh e, e) refl

@@ -1,5 +1,6 @@
 -- What is computed step by step is what the definitions say, over plain variables. Assumes nothing.
-use Rattle.std.proofs.Common.{◌≡◌, ℕ, ◌+◌, ◌*◌, ◌/◌, ◌%◌, ◌^◌, Bool, true, false, cond, eqb, List, get_or, sym, refl, ap, ◌∙◌, add-one, arith, ne_eqb}
+use Rattle.std.proofs.Common.{◌≡◌, ℕ, ◌+◌, ◌*◌, ◌/◌, ◌%◌, ◌^◌, Bool, true, false, cond, eqb, List, get_or, sym, refl}
+use Rattle.std.proofs.Common.{ap, ◌∙◌, add-one, arith, ne_eqb}
 use native.Mathlib.Nat.{mod-add-mod, mul-add-mod_self_right}
 use lib.Ieee.{Float, nan, binary32, to_bits}
 use Rattle.numbers.specs.F32.{decimal}
@@ -23,10 +24,12 @@ use Rattle.identity.specs.declared.Ready.{Ready}
 use Rattle.identity.specs.declared.Playing.{Playing}
 use Rattle.identity.specs.declared.Identified.{Identified}
 use Rattle.identity.specs.Hash.{hash_basis, hashed_word, hashed_samples}
-use Rattle.identity.specs.Identity.{readied, parameters_of, silence, set_up_for, block_played, blocks_played, note_played, identity_of, notes_played}
+use Rattle.identity.specs.Identity.{readied, parameters_of, silence, set_up_for, block_played, blocks_played}
+use Rattle.identity.specs.Identity.{note_played, identity_of, notes_played}
 
 -- the three parts of a product at 64 bits
-pub times_prime_of : (h : ℕ) {s r : ℕ} → s ≡ (h % 2 ^ 32 * 0x1b3 + h / 2 ^ 32 * 0x1b3 % 2 ^ 32 * 2 ^ 32) % 2 ^ 64 → r ≡ (s + h % 2 ^ 24 * 2 ^ 40) % 2 ^ 64
+pub times_prime_of : (h : ℕ) {s r : ℕ} → s ≡ (h % 2 ^ 32 * 0x1b3 + h / 2 ^ 32 * 0x1b3 % 2 ^ 32 * 2 ^ 32) % 2 ^ 64
+    → r ≡ (s + h % 2 ^ 24 * 2 ^ 40) % 2 ^ 64
     → r ≡ h * 0x100000001b3 % 2 ^ 64
 times_prime_of h es er =
     let low = h % 2 ^ 32 * 0x1b3 in
@@ -34,18 +37,22 @@ times_prime_of h es er =
     let top = h % 2 ^ 24 * 2 ^ 40 in
     let over = h / 2 ^ 24 + h / 2 ^ 32 * 0x1b3 / 2 ^ 32 in
     let whole : h * 0x100000001b3 ≡ over * 2 ^ 64 + (low + high + top) = omega arith in
-    er ∙ ap (λ (x : ℕ). (x + top) % 2 ^ 64) es ∙ mod-add-mod (low + high) (2 ^ 64) top ∙ sym (ap (λ (x : ℕ). x % 2 ^ 64) whole ∙ mul-add-mod_self_right over (2 ^ 64) (low + high + top))
+    er ∙ ap (λ (x : ℕ). (x + top) % 2 ^ 64) es ∙ mod-add-mod (low + high) (2 ^ 64) top
+    ∙ sym (ap (λ (x : ℕ). x % 2 ^ 64) whole ∙ mul-add-mod_self_right over (2 ^ 64) (low + high + top))
 
 -- one sample more
-pub hashed_next : (block : List Float) (n hash : ℕ) {h w g : ℕ} → h ≡ hashed_samples block n hash → w ≡ to_bits binary32 (get_or block n nan) → g ≡ hashed_word h w
+pub hashed_next : (block : List Float) (n hash : ℕ) {h w g : ℕ} → h ≡ hashed_samples block n hash
+    → w ≡ to_bits binary32 (get_or block n nan) → g ≡ hashed_word h w
     → g ≡ hashed_samples block (n + 1) hash
 unfolding hashed_samples
 hashed_next block n hash eh ew eg = rw (add-one n, eg, eh, ew) refl
 
 -- a voice with the patch, an LFO set to it and reset
-pub readied_of : (p : Patch) {table : List ℕ} {made : Prepared} {loaded : Loaded} {started set restarted : lfoPrepared.Prepared} {number : ℕ} → table ≡ six_operators
-    → made ≡ voice.init_answer 6 (decimal 48000 0) → loaded ≡ voice.set_patch_answer made.voice p table
-    → started ≡ lfo.init_answer (decimal 48000 0) → set ≡ lfo.set_answer started.lfo p.modulations → restarted ≡ lfo.reset_answer set.lfo
+pub readied_of : (p : Patch) {table : List ℕ} {made : Prepared} {loaded : Loaded}
+    {started set restarted : lfoPrepared.Prepared} {number : ℕ}
+    → table ≡ six_operators → made ≡ voice.init_answer 6 (decimal 48000 0) → loaded ≡ voice.set_patch_answer made.voice p table
+    → started ≡ lfo.init_answer (decimal 48000 0) → set ≡ lfo.set_answer started.lfo p.modulations
+    → restarted ≡ lfo.reset_answer set.lfo
     → number ≡ cond (eqb loaded.number 0) set.number loaded.number
     → record { number = number; voice = loaded.voice; lfo = restarted.lfo } ≡ readied p
 unfolding readied
@@ -61,7 +68,8 @@ module _ (pairs high low : List Float) where
 module _ (lut pairs high low : List Float) where
   pub block_played_of : (note : Float) (gate : Bool) (s : Playing) {m : Moved} {pitch amp : Read} {q : VoiceParameters}
       {r : Rendered} {hash : ℕ} {block : List Float}
-      → m ≡ lfo.step_answer lut s.lfo s.random (decimal 64 0) → pitch ≡ lfo.pitch_mod_answer m.lfo → amp ≡ lfo.amp_mod_answer m.lfo
+      → m ≡ lfo.step_answer lut s.lfo s.random (decimal 64 0) → pitch ≡ lfo.pitch_mod_answer m.lfo
+      → amp ≡ lfo.amp_mod_answer m.lfo
       → q ≡ parameters_of note gate pitch.value amp.value
       → answered_by r block ≡ render_answer pairs high low s.voice q silence
       → hash ≡ hashed_samples block 64 s.hash
@@ -73,18 +81,23 @@ module _ (lut pairs high low : List Float) where
       rw (eh, em, sym here) refl
 
   -- one block more
-  pub played_next : (note : Float) (gate : Bool) (n : ℕ) (before : Playing) {s t : Playing} → s ≡ blocks_played lut pairs high low note gate n before
+  pub played_next : (note : Float) (gate : Bool) (n : ℕ) (before : Playing) {s t : Playing}
+      → s ≡ blocks_played lut pairs high low note gate n before
       → t ≡ block_played lut pairs high low note gate s → t ≡ blocks_played lut pairs high low note gate (n + 1) before
   unfolding blocks_played
   played_next note gate n before es et = rw (add-one n, et, es) refl
 
-  pub note_played_of : (r : Ready) (note : Float) (hash : ℕ) {v : Voice} {held released : Playing} → v ≡ set_up_for pairs high low r.voice note
-      → held ≡ blocks_played lut pairs high low note true 128 (record { voice = v; lfo = r.lfo; random = 0x21; hash = hash })
-      → released ≡ blocks_played lut pairs high low note false 64 held → released.hash ≡ note_played lut pairs high low r note hash
+  pub note_played_of : (r : Ready) (note : Float) (hash : ℕ) {v : Voice} {held released : Playing}
+      → v ≡ set_up_for pairs high low r.voice note
+      → held ≡ blocks_played lut pairs high low note true 128
+      (record { voice = v; lfo = r.lfo; random = 0x21; hash = hash })
+      → released ≡ blocks_played lut pairs high low note false 64 held
+      → released.hash ≡ note_played lut pairs high low r note hash
   unfolding note_played
   note_played_of r note hash ev eh er = rw (er, eh, ev) refl
 
-  pub notes_played_of : (r : Ready) {h₁ h₂ h₃ : ℕ} → h₁ ≡ note_played lut pairs high low r (decimal 36 0) hash_basis → h₂ ≡ note_played lut pairs high low r (decimal 60 0) h₁
+  pub notes_played_of : (r : Ready) {h₁ h₂ h₃ : ℕ} → h₁ ≡ note_played lut pairs high low r (decimal 36 0) hash_basis
+      → h₂ ≡ note_played lut pairs high low r (decimal 60 0) h₁
       → h₃ ≡ note_played lut pairs high low r (decimal 84 0) h₂ → h₃ ≡ notes_played lut pairs high low r
   unfolding notes_played
   notes_played_of r e₁ e₂ e₃ = rw (e₃, e₂, e₁) refl
@@ -94,12 +107,16 @@ abbrev answer : ℕ → ℕ → Identified
 answer identifier number = record { number = number; identifier = cond (eqb number 0) identifier 0 }
 
 -- a refusal gives its number
-pub not_identified : (p : Patch) (r : Ready) → r ≡ readied p → (r.number ≡ 0 → ⊥) → record { number = r.number; identifier = 0 } ≡ identity_of p
+pub not_identified : (p : Patch) (r : Ready) → r ≡ readied p → (r.number ≡ 0 → ⊥)
+    → record { number = r.number; identifier = 0 } ≡ identity_of p
 unfolding identity_of
 not_identified p r er n = rw (sym er, ne_eqb r.number 0 n) refl
 
-pub identified : (p : Patch) (r : Ready) {lut pairs high low : List Float} {identifier : ℕ} → r ≡ readied p → r.number ≡ 0 → lut ≡ lut_sine → pairs ≡ sine_pairs → high ≡ lut_pitch_ratio_high
-    → low ≡ lut_pitch_ratio_low → identifier ≡ notes_played lut pairs high low r → record { number = 0; identifier = identifier } ≡ identity_of p
+pub identified : (p : Patch) (r : Ready) {lut pairs high low : List Float} {identifier : ℕ} → r ≡ readied p
+    → r.number ≡ 0 → lut ≡ lut_sine → pairs ≡ sine_pairs → high ≡ lut_pitch_ratio_high
+    → low ≡ lut_pitch_ratio_low → identifier ≡ notes_played lut pairs high low r
+    → record { number = 0; identifier = identifier } ≡ identity_of p
 unfolding identity_of
 identified p r er n es ep eh el e =
-    rw (sym er, e, es, ep, eh, el) (sym (ap (answer (notes_played lut_sine sine_pairs lut_pitch_ratio_high lut_pitch_ratio_low r)) n))
+    rw (sym er, e, es, ep, eh, el)
+    (sym (ap (answer (notes_played lut_sine sine_pairs lut_pitch_ratio_high lut_pitch_ratio_low r)) n))

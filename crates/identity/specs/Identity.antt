@@ -49,7 +49,8 @@ silence = replicate 256 (decimal 0 0)
 module _ (pairs high low : List Float) where
   -- a blank block sets the voice up: gate off, no modulation, the LFO does not step
   unfoldable pub set_up_for : Voice → Float → Voice
-  set_up_for v note = (render_answer pairs high low v (parameters_of note false (decimal 0 0) (decimal 0 0)) silence).voice
+  set_up_for v note =
+      (render_answer pairs high low v (parameters_of note false (decimal 0 0) (decimal 0 0)) silence).voice
 
 module _ (lut pairs high low : List Float) where
   -- the LFO steps by 64, its modulations become the block's, and the block's samples are hashed

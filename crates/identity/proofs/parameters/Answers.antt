@@ -3,12 +3,8 @@ use Rattle.std.proofs.Common.{refl}
 use lib.Ieee.{of_bits}
 use Rattle.numbers.specs.F32.{decimal}
 use Rattle.identity.specs.Identity.{parameters_of}
-use Rattle.identity.proofs.parameters.Statement.{statement}
-use Rattle.identity.proofs.parameters.Tie as tie
+use Rattle.identity.proofs.parameters.Goals as goal
 
-returns : tie.Need-returns
+pub returns : goal.returns
 unfolding parameters_of decimal of_bits
 returns c = refl
-
-pub parameters_spec : {M : Type 1} → statement M
-parameters_spec = tie.close (tie.spec returns)
