@@ -1,3 +1,4 @@
 pub mod Channels
 pub mod Numbers
 pub mod Parts
+pub mod Readers

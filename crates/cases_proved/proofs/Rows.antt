@@ -26,6 +26,40 @@ unfolding operator_level_answer operator_level operator_envelope_increment_answe
     call_of reading ready unready extended plan_from counted planned six moved
     digit hex_digit bytes_text row_text count_text source_text way_text call_text calls_text planned_text plan_text
     letters text_of
-cases_hold =
-    (refl, (refl, (refl, (refl, (refl, (refl, (refl, (refl, (refl, (refl, (refl, (λ a i. refl,
-    ((refl, refl, refl), (refl, (refl, tt)))))))))))))))
+cases_hold = (
+  refl,
+  (
+    refl,
+    (
+      refl,
+      (
+        refl,
+        (
+          refl,
+          (
+            refl,
+            (
+              refl,
+              (
+                refl,
+                (
+                  refl,
+                  (
+                    refl,
+                    (
+                      refl,
+                      (
+                        λ a i. refl,
+                        ((refl, refl, refl), (refl, (refl, tt))),
+                      ),
+                    ),
+                  ),
+                ),
+              ),
+            ),
+          ),
+        ),
+      ),
+    ),
+  ),
+)

@@ -30,7 +30,7 @@ pub pitch_level : (level : ℕ) {a t : Float}
     → a ≡ magnitude ((as_float level ⊖ decimal 50 0) ⊘ decimal 32 0 ⊕ decimal 2 2)
     → t ≡ maximum (a ⊖ decimal 1 0) (decimal 0 0)
     → (as_float level ⊖ decimal 50 0) ⊘ decimal 32 0 ⊗ (decimal 1 0 ⊕ t ⊗ t ⊗ decimal 53056 4)
-        ≡ pitch_envelope_level level
+    ≡ pitch_envelope_level level
 unfolding pitch_envelope_level
 pitch_level level ea et = simp (et, ea)
 

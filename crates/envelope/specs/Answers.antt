@@ -49,7 +49,7 @@ operator_set_answer e rate level globalLevel =
 unfoldable pub pitch_set_answer : Envelope → List ℕ → List ℕ → Prepared
 pitch_set_answer e rate level =
     cond (state_fits e) (cond (pitch_fits rate level) (prepared 0 (pitch_set e rate level)) (prepared 6 e))
-        (prepared 9 e)
+    (prepared 9 e)
 
 unfoldable pub render_answer : Bool → Bool → Float → Float → Float → Envelope → Rendered
 render_answer reshape gate rate adScale releaseScale e =

@@ -114,7 +114,7 @@ module _ (reshape gate : Bool) (rate adScale releaseScale : Float) (e : Envelope
       let g = gated reshape gate e in
       let r = advanced (stepped_phase rate adScale releaseScale g) g in
       advanced_moves (stepped_phase rate adScale releaseScale g) g
-          ∙ ap (λ (h : Envelope). moved_to h r.stage r.phase r.start) (gated_moves reshape gate e)
+      ∙ ap (λ (h : Envelope). moved_to h r.stage r.phase r.start) (gated_moves reshape gate e)
 
 -- ---- setting
 

@@ -58,4 +58,4 @@ module _ (reshape gate : Bool) (rate adScale releaseScale : Float) (e : Envelope
   unfolding rendered
   rendered_of ep er =
       er ∙ ap (λ (p : Float). advanced p (standing e f)) ep
-          ∙ ap (λ (g : Envelope). advanced (stepped_phase rate adScale releaseScale g) g) ef
+      ∙ ap (λ (g : Envelope). advanced (stepped_phase rate adScale releaseScale g) g) ef

@@ -38,7 +38,7 @@ module _ (reshape : Bool) (e : Envelope) where
   -- past it
   pub scrubbed_released : (calls : ℕ) (t gateDuration : Float) → (calls ≡ 0 → ⊥) → lt gateDuration t ≡ true
       → scrubbed calls reshape e t gateDuration
-          ≡ released reshape e (t ⊖ gateDuration) (scrubbed (calls - 1) reshape e gateDuration gateDuration)
+      ≡ released reshape e (t ⊖ gateDuration) (scrubbed (calls - 1) reshape e gateDuration gateDuration)
   unfolding scrubbed
   scrubbed_released zero t gateDuration n h = absurd (n refl)
   scrubbed_released (suc calls) t gateDuration n h = rw (h, sub-one)

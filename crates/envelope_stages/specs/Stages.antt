@@ -70,4 +70,4 @@ pitch_levels level = per_stage (λ i. pitch_envelope_level (get_or level i 0))
 unfoldable pub pitch_increments : List ℕ → List Float → Float → List Float
 pitch_increments rate levels scale =
     per_stage
-        (λ i. pitch_stage_increment (get_or rate i 0) (level_before levels i) (get_or levels i nan) (eqb i 3) ⊗ scale)
+    (λ i. pitch_stage_increment (get_or rate i 0) (level_before levels i) (get_or levels i nan) (eqb i 3) ⊗ scale)

@@ -19,7 +19,7 @@ whole_stored lfo whole = rebuilt lfo lfo.phase lfo.delay_phase lfo.value lfo.ran
 pub scrubbed_from : (lfo : Lfo) (state : ℕ) (sample : Float) {n u v w k : ℤ} {z t : Float} {b : Bool} {d : Drawn}
     {l : Lfo}
     → n ≡ to_signed 31 (sample ⊗ lfo.frequency) → u ≡ n → v ≡ n → k ≡ n → w ≡ lfo.phase_integral → z
-        ≡ of_int binary32 u → b ≡ whole_changed v w
+    ≡ of_int binary32 u → b ≡ whole_changed v w
     → d ≡ drawn_if b lfo.random_value state → t ≡ delay_scrubbed (first_of lfo) (second_of lfo) sample
     → l ≡ moved_to lfo (sample ⊗ lfo.frequency ⊖ z) d.value t lfo.phase_integral
     → ◌≡◌ {A = Motion} (record { lfo = whole_stored l k; state = d.state }) (scrubbed lfo state sample)

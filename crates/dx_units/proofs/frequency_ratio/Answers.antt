@@ -11,7 +11,7 @@ returns-then-not-frequency_fits c = simp (sym c.frequency_fits.ensures ∙ c.if-
 pub frequency_ratio-requires : goal.frequency_ratio-requires
 frequency_ratio-requires c =
     fits_coarse c.args.mode c.args.coarse c.args.fine c.args.detune
-        (sym c.frequency_fits.ensures ∙ c.if-not-frequency_fits.false)
+    (sym c.frequency_fits.ensures ∙ c.if-not-frequency_fits.false)
 
 pub returns : goal.returns
 unfolding frequency_ratio_answer

@@ -15,9 +15,10 @@ returns-then-order-eq2 c =
 pub returns-then-order-eq3 : goal.returns-then-order-eq3
 unfolding mantissa_bits decimal of_bits
 returns-then-order-eq3 c =
-    simp
-    (not_order 2 c.args.order c.if-order-eq2.false,
-    is_order_lem 3 c.args.order (omega arith) c.ranges.order.sfits c.if-order-eq3.true)
+    simp (
+      not_order 2 c.args.order c.if-order-eq2.false,
+      is_order_lem 3 c.args.order (omega arith) c.ranges.order.sfits c.if-order-eq3.true,
+    )
     c.f32_to_bits-then-order-eq3.ensures
 
 pub returns : goal.returns

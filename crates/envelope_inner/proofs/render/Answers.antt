@@ -7,7 +7,7 @@ pub step-phase-requires : goal.step-phase-requires
 step-phase-requires c =
     let a = c.args in
     followed_stage a.reshape a.gate a.rate a.ad_scale a.release_scale a.envelope
-        (c.follow-followed.ensures a.envelope refl) c.requires
+    (c.follow-followed.ensures a.envelope refl) c.requires
 
 pub returns : goal.returns
 returns c =

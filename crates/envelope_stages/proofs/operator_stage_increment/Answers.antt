@@ -16,8 +16,11 @@ returns-then-from-to c = simp (sym c.operator_envelope_increment-increment.ensur
 pub returns-then-from-to-2 : goal.returns-then-from-to-2
 unfolding operator_stage_increment decimal round of_bits
 returns-then-from-to-2 c =
-    simp (sym c.operator_envelope_increment-increment.ensures, c.if-from-to.false,
-        c.if-from-to-2.true) c.rising_increment.ensures
+    simp (
+      sym c.operator_envelope_increment-increment.ensures,
+      c.if-from-to.false,
+      c.if-from-to-2.true,
+    ) c.rising_increment.ensures
 
 pub returns : goal.returns
 unfolding operator_stage_increment decimal round of_bits

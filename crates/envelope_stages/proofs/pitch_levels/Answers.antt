@@ -5,5 +5,9 @@ use Rattle.envelope_stages.proofs.pitch_levels.Goals as goal
 pub returns : goal.returns
 unfolding pitch_levels
 returns c =
-    simp (c.pitch_envelope_level.ensures, c.pitch_envelope_level-2.ensures, c.pitch_envelope_level-3.ensures,
-        c.pitch_envelope_level-4.ensures)
+    simp (
+      c.pitch_envelope_level.ensures,
+      c.pitch_envelope_level-2.ensures,
+      c.pitch_envelope_level-3.ensures,
+      c.pitch_envelope_level-4.ensures,
+    )
