@@ -1,15 +1,14 @@
 -- A block has six marks, and each is what the request says. Assumes nothing, of the voice, the tables or the block.
-use mathlib.Core.Path.{◌≡◌, refl, sym, subst, ◌∙◌}
+use mathlib.Core.Path.{◌≡◌, refl, sym, subst}
 use mathlib.Core.Bool.{Bool, true, false, cond, not, ◌&&◌, ◌||◌}
 use mathlib.Core.List.{List}
-use Prim.Native.Nat.{ℕ, ◌/◌, ◌<◌, ◌≤◌}
+use Prim.Native.Nat.{ℕ, ◌/◌, ◌≤◌}
 use native.Mathlib.Omega.{arith}
 use borrow.Author.Tests.{eqb-true, eqb-false, leb-true, leb-false, eq-eqb, ne_eqb}
 use lib.Dec.{T, eqb, leb}
 use lib.ListN.{length, get_or}
 use lib.Ieee.{Float}
 use Rattle.dx_units_step.specs.declared.Mark.TheVariants.{AsAsked}
-use Rattle.dx_units_step.specs.declared.Marked.{Marked}
 use Rattle.dx_units_step.specs.Step.{mark_for}
 use Rattle.voice_levels.specs.Levels.{marked, all_as_asked}
 use Rattle.voice.specs.declared.Voice.{Voice}
