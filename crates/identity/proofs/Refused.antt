@@ -33,7 +33,8 @@ rows_accepted (suc n) = eqb (compiled 6 six_operators n).number 0 && rows_accept
 
 all_accepted : rows_accepted 32 ≡ true
 unfolding rows_accepted destination adding source flagged last_operator unmet ends grown reused chained origin_from
-    modulation known renders call_length rendered call_of reading ready unready extended plan_from counted planned six tabled row_of with_row compiled
+    modulation known renders call_length rendered call_of reading ready unready extended plan_from counted planned six
+    tabled row_of with_row compiled
 all_accepted = refl
 
 is_true : (b : Bool) → T b → b ≡ true

@@ -50,7 +50,8 @@ hashed_next block n hash eh ew eg = rw (add-one n, eg, eh, ew) refl
 -- a voice with the patch, an LFO set to it and reset
 pub readied_of : (p : Patch) {table : List ℕ} {made : Prepared} {loaded : Loaded}
     {started set restarted : lfoPrepared.Prepared} {number : ℕ}
-    → table ≡ six_operators → made ≡ voice.init_answer 6 (decimal 48000 0) → loaded ≡ voice.set_patch_answer made.voice p table
+    → table ≡ six_operators → made ≡ voice.init_answer 6 (decimal 48000 0)
+    → loaded ≡ voice.set_patch_answer made.voice p table
     → started ≡ lfo.init_answer (decimal 48000 0) → set ≡ lfo.set_answer started.lfo p.modulations
     → restarted ≡ lfo.reset_answer set.lfo
     → number ≡ cond (eqb loaded.number 0) set.number loaded.number
