@@ -1,4 +1,5 @@
--- No call on the way to an identifier is refused: from an accepted voice and a tame LFO every block is answered and leaves such a voice and such an LFO.
+-- No call on the way to an identifier is refused: from an accepted voice and a tame LFO every block is answered and
+-- leaves such a voice and such an LFO.
 -- Assumes nothing.
 use mathlib.Core.Path.{◌≡◌, refl, ap, ◌∙◌}
 use mathlib.Core.Bool.{Bool, true, false, cond, ◌&&◌}
@@ -33,9 +34,12 @@ use Rattle.voice_render.proofs.Kept.{render_keeps}
 use Rattle.voice_render.proofs.Switch.{fits_as_given, render_switch}
 use Rattle.identity.specs.declared.Ready.{Ready}
 use Rattle.identity.specs.declared.Playing.{Playing}
-use Rattle.identity.specs.Identity.{readied, parameters_of, silence, set_up_for, block_played, blocks_played, identity_of}
-use Rattle.theorem_answered.specs.Answered.{ready_answered, set_up_answered, block_answered, blocks_answered, note_answered, notes_answered, identity_answered}
-use Rattle.theorem_answered.proofs.Modulations.{Tame, rate_accepted, set_keeps, ready_tame, step_tame, pitch_within, amp_within}
+use Rattle.identity.specs.Identity.{readied, parameters_of, silence, set_up_for, block_played, blocks_played}
+use Rattle.identity.specs.Identity.{identity_of}
+use Rattle.theorem_answered.specs.Answered.{ready_answered, set_up_answered, block_answered, blocks_answered}
+use Rattle.theorem_answered.specs.Answered.{note_answered, notes_answered, identity_answered}
+use Rattle.theorem_answered.proofs.Modulations.{Tame, rate_accepted, set_keeps, ready_tame, step_tame, pitch_within}
+use Rattle.theorem_answered.proofs.Modulations.{amp_within}
 
 together : {a b : Bool} → a ≡ true → b ≡ true → (a && b) ≡ true
 together e f = rw (e, f) refl
@@ -98,13 +102,16 @@ pub record Playable (s : Playing) : Type 0 where
 module _ (pairs high low : List Float) (note : Float) (key : KeyFits note) where
   set_up_answered_lem : (v : Voice) → Plain v → set_up_answered pairs high low v note ≡ true
   unfolding set_up_answered decimal minus_decimal le lt
-  set_up_answered_lem v t = eq-eqb _ 0 (render_answered pairs high low v _ silence t silence_fits (parameters_fit_lem note _ _ false key refl refl))
+  set_up_answered_lem v t =
+      eq-eqb _ 0
+      (render_answered pairs high low v _ silence t silence_fits (parameters_fit_lem note _ _ false key refl refl))
 
   set_up_keeps : (v : Voice) → Plain v → Plain (set_up_for pairs high low v note)
   unfolding set_up_for
   set_up_keeps v t = render_plain pairs high low v _ silence t
 
-  block_answered_lem : (gate : Bool) (s : Playing) → Playable s → block_answered lut_sine pairs high low note gate s ≡ true
+  block_answered_lem : (gate : Bool) (s : Playing) → Playable s
+      → block_answered lut_sine pairs high low note gate s ≡ true
   unfolding block_answered
   block_answered_lem gate s t =
       let step = step_tame s.lfo s.random t.lfo in
@@ -124,15 +131,19 @@ module _ (pairs high low : List Float) (note : Float) (key : KeyFits note) where
 
   -- ---- so many blocks
 
-  blocks_keep : (gate : Bool) (n : ℕ) (s : Playing) → Playable s → Playable (blocks_played lut_sine pairs high low note gate n s)
+  blocks_keep : (gate : Bool) (n : ℕ) (s : Playing) → Playable s
+      → Playable (blocks_played lut_sine pairs high low note gate n s)
   unfolding blocks_played
   blocks_keep gate zero s t = t
-  blocks_keep gate (suc n) s t = block_keeps gate (blocks_played lut_sine pairs high low note gate n s) (blocks_keep gate n s t)
+  blocks_keep gate (suc n) s t =
+      block_keeps gate (blocks_played lut_sine pairs high low note gate n s) (blocks_keep gate n s t)
 
-  blocks_answered_lem : (gate : Bool) (n : ℕ) (s : Playing) → Playable s → blocks_answered lut_sine pairs high low note gate n s ≡ true
+  blocks_answered_lem : (gate : Bool) (n : ℕ) (s : Playing) → Playable s
+      → blocks_answered lut_sine pairs high low note gate n s ≡ true
   unfolding blocks_answered
   blocks_answered_lem gate zero s t = refl
-  blocks_answered_lem gate (suc n) s t = together (blocks_answered_lem gate n s t) (block_answered_lem gate _ (blocks_keep gate n s t))
+  blocks_answered_lem gate (suc n) s t =
+      together (blocks_answered_lem gate n s t) (block_answered_lem gate _ (blocks_keep gate n s t))
 
   -- ---- a note
 
@@ -140,9 +151,11 @@ module _ (pairs high low : List Float) (note : Float) (key : KeyFits note) where
       → note_answered lut_sine pairs high low r note hash ≡ true
   unfolding note_answered
   note_answered_lem r hash v l =
-      let s : Playing = record { voice = set_up_for pairs high low r.voice note; lfo = r.lfo; random = 0x21; hash = hash } in
+      let s : Playing =
+      record { voice = set_up_for pairs high low r.voice note; lfo = r.lfo; random = 0x21; hash = hash } in
       let t : Playable s = record { voice = set_up_keeps r.voice v; lfo = l } in
-      together (together (set_up_answered_lem r.voice v) (blocks_answered_lem true 128 s t)) (blocks_answered_lem false 64 _ (blocks_keep true 128 s t))
+      together (together (set_up_answered_lem r.voice v) (blocks_answered_lem true 128 s t))
+      (blocks_answered_lem false 64 _ (blocks_keep true 128 s t))
 
 -- ---- the three notes
 
@@ -160,13 +173,16 @@ ready_plain p =
     }
 
 -- the notes of every patch that a voice and an LFO take
-pub notes_answered_lem : (p : Patch) → (readied p).number ≡ 0 → notes_answered lut_sine sine_pairs lut_pitch_ratio_high lut_pitch_ratio_low (readied p) ≡ true
+pub notes_answered_lem : (p : Patch) → (readied p).number ≡ 0
+    → notes_answered lut_sine sine_pairs lut_pitch_ratio_high lut_pitch_ratio_low (readied p) ≡ true
 unfolding notes_answered decimal le lt
 notes_answered_lem p e = together (together (note _ refl _) (note _ refl _)) (note _ refl _)
   where
-    note : (n : Float) → KeyFits n → (hash : ℕ) → note_answered lut_sine sine_pairs lut_pitch_ratio_high lut_pitch_ratio_low (readied p) n hash ≡ true
+    note : (n : Float) → KeyFits n → (hash : ℕ)
+        → note_answered lut_sine sine_pairs lut_pitch_ratio_high lut_pitch_ratio_low (readied p) n hash ≡ true
     note n k hash =
-        note_answered_lem sine_pairs lut_pitch_ratio_high lut_pitch_ratio_low n k (readied p) hash (ready_plain p) (ready_tame p e)
+        note_answered_lem sine_pairs lut_pitch_ratio_high lut_pitch_ratio_low n k (readied p) hash (ready_plain p)
+        (ready_tame p e)
 
 -- ---- what comes before the notes
 
@@ -180,7 +196,8 @@ both_zero a b e = go (eqb a 0) refl e
 
 inits_answered : ((init_answer 6 (decimal 48000 0)).number ≡ 0) × ((lfo.init_answer (decimal 48000 0)).number ≡ 0)
 unfolding init_answer lfo.init_answer
-inits_answered = rw (is_true (counted 6) six_counted, is_true (sample_rate_fits (decimal 48000 0)) rate_accepted) (refl, refl)
+inits_answered =
+    rw (is_true (counted 6) six_counted, is_true (sample_rate_fits (decimal 48000 0)) rate_accepted) (refl, refl)
 
 -- an LFO that was set, taken or refused, can be reset
 reset_answered : (l : Lfo) → Valid l → (lfo.reset_answer l).number ≡ 0
@@ -194,7 +211,11 @@ ready_answered_lem p e =
     let l = lfo.set_answer (lfo.init_answer (decimal 48000 0)).lfo p.modulations in
     let set = both_zero v.number l.number e in
     let reset = reset_answered l.lfo (set_keeps p.modulations _ (init_valid (decimal 48000 0) rate_accepted)) in
-    together (together (together (together (eq-eqb _ 0 inits_answered.0) (eq-eqb _ 0 set.0)) (eq-eqb _ 0 inits_answered.1)) (eq-eqb _ 0 set.1)) (eq-eqb _ 0 reset)
+    together
+    (together
+    (together (together (eq-eqb _ 0 inits_answered.0) (eq-eqb _ 0 set.0)) (eq-eqb _ 0 inits_answered.1))
+    (eq-eqb _ 0 set.1))
+    (eq-eqb _ 0 reset)
 
 -- a patch that has an identifier has it from answered calls alone
 pub identity_answered_lem : (p : Patch) → (identity_of p).number ≡ 0 → identity_answered p ≡ true

@@ -11,7 +11,8 @@ use Rattle.numbers.specs.F32.{◌⊕◌, ◌⊖◌, ◌⊗◌, decimal}
 use Rattle.numbers.proofs.Views.{on, NotAtLeast, nge_fin, not_at_least}
 use Rattle.numbers.proofs.Rounded.{round_plus}
 use Rattle.lfo_inner.specs.Lfo.{at_most_one, delay_stepped, ramp_of}
-use Rattle.lfo.proofs.Phases.{FromZero, plus, minus_zero, no_part, part_from_zero, Sum, sum_of, sum_small, parts_add, AtLeastZero, infinite, some, product_at_least, plus_at_least, gone}
+use Rattle.lfo.proofs.Phases.{FromZero, plus, minus_zero, no_part, part_from_zero, Sum, sum_of, sum_small, parts_add}
+use Rattle.lfo.proofs.Phases.{AtLeastZero, infinite, some, product_at_least, plus_at_least, gone}
 use Rattle.numbers.proofs.Sizes.{Share, share, no_share}
 use Rattle.theorem_answered.proofs.Shares.{share_from_zero, twice_past_half}
 use Rattle.theorem_answered.proofs.Waves.{zero_share, one_share}
@@ -40,7 +41,8 @@ zeros_add _ _ (minus_zero e) (plus n d) =
     let a = 0 * up e * down d in
     let b = n * up d * down e in
     rw (le-ltb b a (let z = gone (up e) (down d) in omega arith)) (either a b (down e * down d) (ltb a b))
-zeros_add x y (minus_zero e) (minus_zero d) = sum_at_least (fin true 0 e ⊕ fin true 0 d) (parts_add (fin true 0 e) (fin true 0 d) (no_part e) (no_part d))
+zeros_add x y (minus_zero e) (minus_zero d) =
+    sum_at_least (fin true 0 e ⊕ fin true 0 d) (parts_add (fin true 0 e) (fin true 0 d) (no_part e) (no_part d))
 
 at_least_add : (x y : Float) → FromZero x → AtLeastZero y → AtLeastZero (x ⊕ y)
 unfolding add
@@ -64,7 +66,8 @@ at_most_share : (x : Float) → AtLeastZero x → Share (at_most_one x)
 unfolding at_most_one decimal
 at_most_share x p = capped x p (le (decimal 1 0) x) refl
 
-pub delay_share : (delay first second scale : Float) → Share delay → FromZero first → FromZero second → FromZero scale → Share (delay_stepped delay first second scale)
+pub delay_share : (delay first second scale : Float) → Share delay → FromZero first → FromZero second → FromZero scale
+    → Share (delay_stepped delay first second scale)
 unfolding delay_stepped
 delay_share delay first second scale p f g s = at_most_share _ (go (lt delay (decimal 5 1)))
   where

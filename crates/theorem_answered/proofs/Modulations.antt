@@ -1,5 +1,6 @@
--- An LFO's modulations stay in a voice block's ranges: from the state that an accepted patch sets it to, every step of 64 samples is accepted, and
--- then its pitch modulation is from -4 to 4 and its amplitude modulation from 0 to 1. Assumes nothing.
+-- An LFO's modulations stay in a voice block's ranges: from the state that an accepted patch sets it to, every step of
+-- 64 samples is accepted, and then its pitch modulation is from -4 to 4 and its amplitude modulation from 0 to 1.
+-- Assumes nothing.
 use mathlib.Core.Path.{◌≡◌, refl, sym, ◌∙◌, ap, subst}
 use mathlib.Core.Bool.{Bool, true, false, ◌&&◌, cond}
 use Prim.Native.Nat.{ℕ}
@@ -18,8 +19,10 @@ use Rattle.patch.specs.Packed.{patch_fits, modulations_fit}
 use Rattle.patch_limits.specs.Ranges.{between, unit_fits, sample_rate_fits}
 use Rattle.sine.specs.Table.{lut_sine}
 use Rattle.lfo_inner.specs.declared.Lfo.{Lfo}
-use Rattle.lfo_inner.specs.Lfo.{fresh_lfo, adjusted, moved_to, valued, restarted, stepped, settled, first_of, second_of, ramp_of, pitch_mod_of, amp_mod_of}
-use Rattle.lfo.specs.Answers.{from_zero, state_fits, step_fits, moved, init_answer, set_answer, reset_answer, move_answer, step_answer, read_answer, pitch_mod_answer, amp_mod_answer}
+use Rattle.lfo_inner.specs.Lfo.{fresh_lfo, adjusted, moved_to, valued, restarted, stepped, settled, first_of, second_of}
+use Rattle.lfo_inner.specs.Lfo.{ramp_of, pitch_mod_of, amp_mod_of}
+use Rattle.lfo.specs.Answers.{from_zero, state_fits, step_fits, moved, init_answer, set_answer, reset_answer}
+use Rattle.lfo.specs.Answers.{move_answer, step_answer, read_answer, pitch_mod_answer, amp_mod_answer}
 use Rattle.lfo.specs.Calls.{Set, Reset, Step, answer_to, Valid}
 use Rattle.lfo.proofs.Phases.{FromZero, plus}
 use Rattle.lfo.proofs.Accepted.{phase_part}
@@ -31,7 +34,8 @@ use Rattle.numbers.proofs.Sizes.{Held, Share}
 use Rattle.theorem_answered.proofs.Shares.{share_small, product_small, product_two, product_share, past_half}
 use Rattle.theorem_answered.proofs.Waves.{zero_share, down_share, wave_share, drawn_share}
 use Rattle.theorem_answered.proofs.Delays.{delay_share, ramp_share}
-use Rattle.theorem_answered.proofs.Settings.{sample, frequency_slow, first_from_zero, second_from_zero, amp_depth_lem, pitch_depth_lem, sensitivity}
+use Rattle.theorem_answered.proofs.Settings.{sample, frequency_slow, first_from_zero, second_from_zero, amp_depth_lem}
+use Rattle.theorem_answered.proofs.Settings.{pitch_depth_lem, sensitivity}
 
 -- an LFO whose step of 64 samples is accepted and whose modulations are in a block's ranges
 pub record Tame (lfo : Lfo) : Type 0 where
@@ -68,17 +72,26 @@ amp_share lfo t =
     let r = ramp_share lfo.delay_phase t.delay in
     product_share (x ⊗ y) lfo.amp_mod_depth (product_share x y (down_share lfo.value t.value) r) t.amp_depth
 
-pub pitch_within : (lfo : Lfo) → Tame lfo → ((pitch_mod_answer lfo).number ≡ 0) × T (between (minus_decimal 4 0) (decimal 4 0) (pitch_mod_answer lfo).value)
+pub pitch_within : (lfo : Lfo) → Tame lfo
+    → ((pitch_mod_answer lfo).number ≡ 0) × T (between (minus_decimal 4 0) (decimal 4 0) (pitch_mod_answer lfo).value)
 unfolding pitch_mod_answer read_answer
 pitch_within lfo t =
     let p = pitch_held lfo t in
-    rw (is_true (state_fits lfo) t.valid.accepted) (refl, and_i (le (minus_decimal 4 0) (pitch_mod_of lfo)) (le (pitch_mod_of lfo) (decimal 4 0)) (held_low (pitch_mod_of lfo) p) (held_high (pitch_mod_of lfo) p))
+    rw (is_true (state_fits lfo) t.valid.accepted) (
+      refl,
+      and_i (le (minus_decimal 4 0) (pitch_mod_of lfo)) (le (pitch_mod_of lfo) (decimal 4 0))
+          (held_low (pitch_mod_of lfo) p) (held_high (pitch_mod_of lfo) p),
+    )
 
 pub amp_within : (lfo : Lfo) → Tame lfo → ((amp_mod_answer lfo).number ≡ 0) × T (unit_fits (amp_mod_answer lfo).value)
 unfolding amp_mod_answer read_answer
 amp_within lfo t =
     let u = amp_share lfo t in
-    rw (is_true (state_fits lfo) t.valid.accepted) (refl, and_i (le (decimal 0 0) (amp_mod_of lfo)) (le (amp_mod_of lfo) (decimal 1 0)) (share_low (amp_mod_of lfo) u) (share_high (amp_mod_of lfo) u))
+    rw (is_true (state_fits lfo) t.valid.accepted) (
+      refl,
+      and_i (le (decimal 0 0) (amp_mod_of lfo)) (le (amp_mod_of lfo) (decimal 1 0))
+          (share_low (amp_mod_of lfo) u) (share_high (amp_mod_of lfo) u),
+    )
 
 -- ---- a step
 
@@ -103,11 +116,14 @@ step_valid : (lfo : Lfo) (state : ℕ) → Tame lfo → Valid (step_answer lut_s
 unfolding answer_to
 step_valid lfo state t = (call_keeps lfo t.valid (Step lut_sine state (decimal 64 0))).0
 
-settled_tame : (lfo : Lfo) (state : ℕ) → Tame lfo → Valid (settled lut_sine (stepped lfo state (decimal 64 0))).lfo → Tame (settled lut_sine (stepped lfo state (decimal 64 0))).lfo
+settled_tame : (lfo : Lfo) (state : ℕ) → Tame lfo → Valid (settled lut_sine (stepped lfo state (decimal 64 0))).lfo
+    → Tame (settled lut_sine (stepped lfo state (decimal 64 0))).lfo
 settled_tame lfo state t v =
     let b = le (decimal 1 0) (lfo.phase ⊕ decimal 64 0 ⊗ lfo.frequency) in
     let last = drawn_share b lfo.random_value state t.last in
-    let delay = delay_share lfo.delay_phase (first_of lfo) (second_of lfo) (decimal 64 0) t.delay t.first t.second scale_from_zero in
+    let delay =
+    delay_share lfo.delay_phase (first_of lfo) (second_of lfo) (decimal 64 0) t.delay t.first t.second
+    scale_from_zero in
     unfold settled stepped moved_to valued in
     record {
       valid = v;
@@ -122,7 +138,8 @@ settled_tame lfo state t v =
     }
 
 pub step_tame : (lfo : Lfo) (state : ℕ) → Tame lfo
-    → ((step_answer lut_sine lfo state (decimal 64 0)).number ≡ 0) × Tame (step_answer lut_sine lfo state (decimal 64 0)).lfo
+    → ((step_answer lut_sine lfo state (decimal 64 0)).number ≡ 0)
+    × Tame (step_answer lut_sine lfo state (decimal 64 0)).lfo
 step_tame lfo state t =
     let e = step_is lfo state t in (
       ap (λ m. m.number) e,
@@ -177,7 +194,8 @@ reset_valid lfo v = subst Valid (reset_is lfo v) (call_keeps lfo v Reset).0
 abbrev set_to : ModulationParameters → Lfo
 set_to m = adjusted (fresh_lfo sample (decimal 1 1)) m
 
-ready_is : (p : Patch) → modulations_fit p.modulations lfo_sensitivity ≡ true → (readied p).lfo ≡ restarted (set_to p.modulations)
+ready_is : (p : Patch) → modulations_fit p.modulations lfo_sensitivity ≡ true
+    → (readied p).lfo ≡ restarted (set_to p.modulations)
 unfolding readied
 ready_is p h =
     let m = p.modulations in
@@ -185,10 +203,12 @@ ready_is p h =
     ∙ ap (λ l. (reset_answer l).lfo) (set_is m (fresh_lfo sample (decimal 1 1)) fresh_valid h)
     ∙ reset_is (set_to m) (set_valid m (fresh_lfo sample (decimal 1 1)) fresh_valid h)
 
-pitch_depth_held : (m : ModulationParameters) → modulations_fit m lfo_sensitivity ≡ true → Held 2 1 (as_float m.pitch_mod_depth ⊗ decimal 1 2 ⊗ pitch_mod_sensitivity_of m.pitch_mod_sensitivity)
+pitch_depth_held : (m : ModulationParameters) → modulations_fit m lfo_sensitivity ≡ true
+    → Held 2 1 (as_float m.pitch_mod_depth ⊗ decimal 1 2 ⊗ pitch_mod_sensitivity_of m.pitch_mod_sensitivity)
 pitch_depth_held m h =
     let x = as_float m.pitch_mod_depth ⊗ decimal 1 2 in
-    product_two x (pitch_mod_sensitivity_of m.pitch_mod_sensitivity) (share_small x (pitch_depth_lem m h)) (sensitivity m h)
+    product_two x (pitch_mod_sensitivity_of m.pitch_mod_sensitivity) (share_small x (pitch_depth_lem m h))
+    (sensitivity m h)
 
 set_tame : (m : ModulationParameters) → modulations_fit m lfo_sensitivity ≡ true → Tame (restarted (set_to m))
 set_tame m h =

@@ -41,17 +41,29 @@ share_low x s = from_zero_le x (share_from_zero x s)
 
 pub share_high : (x : Float) → Share x → T (le x (decimal 1 0))
 unfolding decimal le lt eq
-share_high _ (share m e h) = le_of_values (fin false m e) (fin false 1 (pos 0)) (m * up e) (down e) 1 1 (down_pos e) (omega arith) (refl, refl) (refl, refl) (omega arith)
-share_high _ (no_share e) = or_i (ltb 0 (0 * up e * 1 + 1 * 1 * down e)) _ (lt→ltb 0 (0 * up e * 1 + 1 * 1 * down e) (let p = down_pos e in omega arith))
+share_high _ (share m e h) =
+    le_of_values (fin false m e) (fin false 1 (pos 0)) (m * up e) (down e) 1 1 (down_pos e) (omega arith) (refl, refl)
+    (refl, refl) (omega arith)
+share_high _ (no_share e) =
+    or_i (ltb 0 (0 * up e * 1 + 1 * 1 * down e)) _
+    (lt→ltb 0 (0 * up e * 1 + 1 * 1 * down e) (let p = down_pos e in omega arith))
 
 -- ---- from -4 to 4, for a size of at most 2
 
 pub held_low : (x : Float) → Held 2 1 x → T (le (minus_decimal 4 0) x)
 unfolding minus_decimal le lt eq
-held_low _ (held false m e h) = or_i (ltb 0 (1 * 2 ^ 2 * down e + m * up e * 1)) _ (lt→ltb 0 (1 * 2 ^ 2 * down e + m * up e * 1) (let p = down_pos e in omega arith))
-held_low _ (held true m e h) = or_i (ltb (m * up e * 1) (1 * 2 ^ 2 * down e)) _ (lt→ltb (m * up e * 1) (1 * 2 ^ 2 * down e) (let p = down_pos e in omega arith))
+held_low _ (held false m e h) =
+    or_i (ltb 0 (1 * 2 ^ 2 * down e + m * up e * 1)) _
+    (lt→ltb 0 (1 * 2 ^ 2 * down e + m * up e * 1) (let p = down_pos e in omega arith))
+held_low _ (held true m e h) =
+    or_i (ltb (m * up e * 1) (1 * 2 ^ 2 * down e)) _
+    (lt→ltb (m * up e * 1) (1 * 2 ^ 2 * down e) (let p = down_pos e in omega arith))
 
 pub held_high : (x : Float) → Held 2 1 x → T (le x (decimal 4 0))
 unfolding decimal le lt eq
-held_high _ (held false m e h) = or_i (ltb (m * up e * 1) (1 * 2 ^ 2 * down e)) _ (lt→ltb (m * up e * 1) (1 * 2 ^ 2 * down e) (let p = down_pos e in omega arith))
-held_high _ (held true m e h) = or_i (ltb 0 (m * up e * 1 + 1 * 2 ^ 2 * down e)) _ (lt→ltb 0 (m * up e * 1 + 1 * 2 ^ 2 * down e) (let p = down_pos e in omega arith))
+held_high _ (held false m e h) =
+    or_i (ltb (m * up e * 1) (1 * 2 ^ 2 * down e)) _
+    (lt→ltb (m * up e * 1) (1 * 2 ^ 2 * down e) (let p = down_pos e in omega arith))
+held_high _ (held true m e h) =
+    or_i (ltb 0 (m * up e * 1 + 1 * 2 ^ 2 * down e)) _
+    (lt→ltb 0 (m * up e * 1 + 1 * 2 ^ 2 * down e) (let p = down_pos e in omega arith))

@@ -86,7 +86,8 @@ module _ (m : ModulationParameters) (h : modulations_fit m lfo_sensitivity ≡ t
   numbers_fit : (m.delay ≤ 99) × (m.pitch_mod_depth ≤ 99) × (m.amp_mod_depth ≤ 99)
   unfolding modulations_fit within lfo_names lfo_field lfo_number
   numbers_fit =
-      let t = second_to_fourth (leb m.rate 99) (leb m.delay 99) (leb m.pitch_mod_depth 99) (leb m.amp_mod_depth 99) _ h in
+      let t = second_to_fourth (leb m.rate 99) (leb m.delay 99) (leb m.pitch_mod_depth 99)
+      (leb m.amp_mod_depth 99) _ h in
       (leb-true m.delay 99 t.0, leb-true m.pitch_mod_depth 99 t.1, leb-true m.amp_mod_depth 99 t.2)
 
   pub frequency_slow : T (lt (decimal 64 0 ⊗ (lfo_frequency m.rate ⊗ sample)) (decimal 1 0))
@@ -98,11 +99,17 @@ module _ (m : ModulationParameters) (h : modulations_fit m lfo_sensitivity ≡ t
 
   pub first_from_zero : FromZero ((lfo_delay m.delay).first ⊗ sample)
   unfolding grows
-  first_from_zero = positive_from_zero _ (and_l (positive ((lfo_delay m.delay).first ⊗ sample)) (positive ((lfo_delay m.delay).second ⊗ sample)) delay_grows)
+  first_from_zero =
+      positive_from_zero _
+      (and_l (positive ((lfo_delay m.delay).first ⊗ sample))
+      (positive ((lfo_delay m.delay).second ⊗ sample)) delay_grows)
 
   pub second_from_zero : FromZero ((lfo_delay m.delay).second ⊗ sample)
   unfolding grows
-  second_from_zero = positive_from_zero _ (and_r (positive ((lfo_delay m.delay).first ⊗ sample)) (positive ((lfo_delay m.delay).second ⊗ sample)) delay_grows)
+  second_from_zero =
+      positive_from_zero _
+      (and_r (positive ((lfo_delay m.delay).first ⊗ sample))
+      (positive ((lfo_delay m.delay).second ⊗ sample)) delay_grows)
 
   pub amp_depth_lem : Share (as_float m.amp_mod_depth ⊗ decimal 1 2)
   amp_depth_lem = depth_share m.amp_mod_depth numbers_fit.2
@@ -114,7 +121,8 @@ module _ (m : ModulationParameters) (h : modulations_fit m lfo_sensitivity ≡ t
   unfolding sensitive decimal minus_decimal
   sensitivity =
       let x = pitch_mod_sensitivity_of m.pitch_mod_sensitivity in
-      let t = at_each sensitive 8 all_sensitive m.pitch_mod_sensitivity (let z = sensitivity_fits m _ h in omega arith) in
+      let t = at_each sensitive 8 all_sensitive m.pitch_mod_sensitivity
+      (let z = sensitivity_fits m _ h in omega arith) in
       let a = le (minus_decimal 2 0) x in
       let b = le x (decimal 2 0) in
       is_held x (is_sized 1 1 x (is_true a (and_l a b t)) (is_true b (and_r a b t)))

@@ -13,7 +13,7 @@ use Rattle.numbers.specs.F32.{◌⊕◌, ◌⊖◌, ◌⊗◌}
 use Rattle.numbers.proofs.Views.{no}
 use Rattle.numbers.proofs.Rounded.{Upto, upto, rounded_upto}
 use Rattle.numbers.proofs.Sizes.{Held, held, signed, rounded_small, sum_bound, Share, share, no_share, rounded_share}
-use Rattle.lfo.proofs.Phases.{FromZero, plus, minus_zero, AtLeastZero, some, product_at_least}
+use Rattle.lfo.proofs.Phases.{FromZero, plus, minus_zero, AtLeastZero, infinite, some, product_at_least}
 
 -- ---- of a size of at most n / d
 
@@ -37,7 +37,9 @@ product_two _ _ (held s m e h) (held t n d k) =
     let l : n * up d ≤ 2 * down d = omega arith in
     let b : m * up e * (n * up d) ≤ down e * (2 * down d) = mul-le-mul a l in
     let c : down e * (2 * down d) ≡ 2 * (down e * down d) = mul_left_comm (down e) 2 (down d) in
-    signed 2 1 (m * up e * (n * up d)) (down e * down d) (upto_two (m * up e * (n * up d)) (down e * down d) (mul-le-mul (down_pos e) (down_pos d)) (omega (arith, b, c))) _
+    signed 2 1 (m * up e * (n * up d)) (down e * down d)
+    (upto_two (m * up e * (n * up d)) (down e * down d) (mul-le-mul (down_pos e) (down_pos d))
+    (omega (arith, b, c))) _
 
 -- ---- from 0 to 1
 
@@ -54,11 +56,13 @@ both_share _ (held s m e h) (plus _ _) = share m e (omega arith)
 both_share _ (held s m e h) (minus_zero _) = no_share e
 
 pub small_share : (x : Float) → AtLeastZero x → Held 1 1 x → Share x
+small_share _ infinite h = elim h [ ]
 small_share _ (some x f) h = both_share x h f
 
 pub product_share : (x y : Float) → Share x → Share y → Share (x ⊗ y)
 product_share x y p q =
-    small_share (x ⊗ y) (product_at_least x y (share_from_zero x p) (share_from_zero y q)) (product_small x y (share_small x p) (share_small y q))
+    small_share (x ⊗ y) (product_at_least x y (share_from_zero x p) (share_from_zero y q))
+    (product_small x y (share_small x p) (share_small y q))
 
 pub one_less : (x : Float) → Share x → Share (fin false 1 (pos 0) ⊖ x)
 unfolding sub add neg sum
@@ -67,7 +71,9 @@ one_less _ (share m e h) =
     let a = 1 * 1 * down e in
     let b = m * up e * 1 in
     rw (le-ltb a b (omega arith)) (rounded_share (a - b) (1 * down e) (omega arith) (omega arith))
-one_less _ (no_share e) = let p = down_pos e in rounded_share (1 * 1 * down e + 0 * up e * 1) (1 * down e) (omega arith) (omega arith)
+one_less _ (no_share e) =
+    let p = down_pos e in
+    rounded_share (1 * 1 * down e + 0 * up e * 1) (1 * down e) (omega arith) (omega arith)
 
 -- ---- around a half
 
@@ -76,16 +82,26 @@ half = fin false 1 (negsuc 0)
 
 pub past_half : (x : Float) → Share x → Held 1 1 (x ⊖ half)
 unfolding sub add neg
-past_half _ (share m e h) = let p = down_pos e in sum_bound false (m * up e * 2) true (1 * 1 * down e) (down e * 2) (omega arith) (omega arith) (omega arith) (λ q. no q)
-past_half _ (no_share e) = let p = down_pos e in sum_bound true (0 * up e * 2) true (1 * 1 * down e) (down e * 2) (omega arith) (omega arith) (omega arith) (λ q. omega arith)
+past_half _ (share m e h) =
+    let p = down_pos e in
+    sum_bound false (m * up e * 2) true (1 * 1 * down e) (down e * 2) (omega arith) (omega arith) (omega arith)
+    (λ q. no q)
+past_half _ (no_share e) =
+    let p = down_pos e in
+    sum_bound true (0 * up e * 2) true (1 * 1 * down e) (down e * 2) (omega arith) (omega arith) (omega arith)
+    (λ q. omega arith)
 
 twice_after : (x : Float) → Upto 1 2 x → Share (x ⊗ fin false 1 (pos 1))
 unfolding mul
-twice_after _ (upto m e h) = let p = down_pos e in rounded_share (m * up e * (1 * 2 ^ 1)) (down e * 1) (omega arith) (omega arith)
+twice_after _ (upto m e h) =
+    let p = down_pos e in
+    rounded_share (m * up e * (1 * 2 ^ 1)) (down e * 1) (omega arith) (omega arith)
 
 twice_before : (x : Float) → Upto 1 2 x → Share (fin false 1 (pos 1) ⊗ x)
 unfolding mul
-twice_before _ (upto m e h) = let p = down_pos e in rounded_share (1 * 2 ^ 1 * (m * up e)) (1 * down e) (omega arith) (omega arith)
+twice_before _ (upto m e h) =
+    let p = down_pos e in
+    rounded_share (1 * 2 ^ 1 * (m * up e)) (1 * down e) (omega arith) (omega arith)
 
 -- what a number from a half to 1 is past the half
 above_half : (x : Float) → Share x → lt x half ≡ false → Upto 1 2 (x ⊖ half)
@@ -96,7 +112,11 @@ above_half _ (share m e h) l =
     let b = 1 * 1 * down e in
     let z = ltb-false a b l in
     rw (le-ltb a b z) (upto_half (a - b) (down e * 2) (omega arith) (omega arith))
-above_half _ (no_share e) l = let p = down_pos e in let z = ltb-false 0 (0 * up e * 2 + 1 * 1 * down e) l in let w : ⊥ = omega arith in absurd w
+above_half _ (no_share e) l =
+    let p = down_pos e in
+    let z = ltb-false 0 (0 * up e * 2 + 1 * 1 * down e) l in
+    let w : ⊥ = omega arith in
+    absurd w
 
 -- what a number below a half lacks to it
 below_half : (x : Float) → Share x → lt x half ≡ true → Upto 1 2 (half ⊖ x)
@@ -107,9 +127,12 @@ below_half _ (share m e h) l =
     let b = m * up e * 2 in
     let z = ltb-true b a l in
     rw (le-ltb a b (omega arith)) (upto_half (a - b) (2 * down e) (omega arith) (omega arith))
-below_half _ (no_share e) l = let p = down_pos e in upto_half (1 * 1 * down e + 0 * up e * 2) (2 * down e) (omega arith) (omega arith)
+below_half _ (no_share e) l =
+    let p = down_pos e in
+    upto_half (1 * 1 * down e + 0 * up e * 2) (2 * down e) (omega arith) (omega arith)
 
-pub twice_past_half : (x : Float) → Share x → lt x half ≡ false → Share ((x ⊖ half) ⊗ fin false 1 (pos 1)) × Share (fin false 1 (pos 1) ⊗ (x ⊖ half))
+pub twice_past_half : (x : Float) → Share x → lt x half ≡ false
+    → Share ((x ⊖ half) ⊗ fin false 1 (pos 1)) × Share (fin false 1 (pos 1) ⊗ (x ⊖ half))
 twice_past_half x p l = let u = above_half x p l in (twice_after (x ⊖ half) u, twice_before (x ⊖ half) u)
 
 pub twice_to_half : (x : Float) → Share x → lt x half ≡ true → Share (fin false 1 (pos 1) ⊗ (half ⊖ x))
@@ -118,11 +141,16 @@ twice_to_half x p l = twice_before (half ⊖ x) (below_half x p l)
 -- a half, and a half of a number from -1 to 1
 halved : (x : Float) → Held 1 1 x → Held 1 2 (half ⊗ x)
 unfolding mul
-halved _ (held s m e h) = let p = down_pos e in signed 1 2 (1 * 1 * (m * up e)) (2 * down e) (upto_half (1 * 1 * (m * up e)) (2 * down e) (omega arith) (omega arith)) _
+halved _ (held s m e h) =
+    let p = down_pos e in
+    signed 1 2 (1 * 1 * (m * up e)) (2 * down e)
+    (upto_half (1 * 1 * (m * up e)) (2 * down e) (omega arith) (omega arith)) _
 
 lifted : (x : Float) → Held 1 2 x → Share (half ⊕ x)
 unfolding add sum
-lifted _ (held false m e h) = let p = down_pos e in rounded_share (1 * 1 * down e + m * up e * 2) (2 * down e) (omega arith) (omega arith)
+lifted _ (held false m e h) =
+    let p = down_pos e in
+    rounded_share (1 * 1 * down e + m * up e * 2) (2 * down e) (omega arith) (omega arith)
 lifted _ (held true m e h) =
     let p = down_pos e in
     let a = 1 * 1 * down e in

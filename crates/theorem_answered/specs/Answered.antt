@@ -67,8 +67,10 @@ module _ (lut pairs high low : List Float) where
   notes_answered r =
       let one = note_played lut pairs high low r (decimal 36 0) hash_basis in
       let two = note_played lut pairs high low r (decimal 60 0) one in
-      note_answered r (decimal 36 0) hash_basis && note_answered r (decimal 60 0) one && note_answered r (decimal 84 0) two
+      note_answered r (decimal 36 0) hash_basis && note_answered r (decimal 60 0) one
+      && note_answered r (decimal 84 0) two
 
 -- every call of `identity_of`, for a patch that has an identifier
 unfoldable pub identity_answered : Patch → Bool
-identity_answered p = ready_answered p && notes_answered lut_sine sine_pairs lut_pitch_ratio_high lut_pitch_ratio_low (readied p)
+identity_answered p =
+    ready_answered p && notes_answered lut_sine sine_pairs lut_pitch_ratio_high lut_pitch_ratio_low (readied p)
