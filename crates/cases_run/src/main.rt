@@ -1,13 +1,13 @@
-// Document 01's cases that are run and not proved, topic by topic, and the registry's old fault, shown gone. Each
+// The library's cases that are run and not proved, topic by topic, and the registry's old fault, shown gone. Each
 // topic has a heading and a line for each case: what was given, and what came back. Each function is told whether
 // every line before it was written, writes nothing where one was not, and says how it was with its own.
 #![tactic(auto)]
 
+mod conversions;
 mod lfos;
 mod patches;
 mod plans;
 mod texts;
-mod units;
 mod voices;
 
 use streams::Streams;
@@ -35,7 +35,7 @@ fn main(rt: HostRuntime) {
         err: rt.stderr(),
     };
     let a = patches::run(to, true);
-    let b = units::run(to, a);
+    let b = conversions::run(to, a);
     let c = plans::run(to, b);
     let d = lfos::run(to, c);
     let e = voices::run(to, d);

@@ -1,4 +1,4 @@
-// The plan printer on many rows: document 01's examples, refused rows, wrong lengths, and rows of both built-in
+// The plan printer on many rows: examples, refused rows, wrong lengths, and rows of both built-in
 // tables. Each text ends in the line of its own that the printer ends it with.
 ghost use Rattle.std.specs.Prelude.{◌≤◌, ◌<◌};
 
@@ -29,7 +29,7 @@ fn rows(to: Streams, going: bool, operators: usize, table: &[u8]) -> bool
     true
 }
 
-// Four operators: document 01's row, its refused rows, and every algorithm.
+// Four operators: a row, refused rows, and every algorithm.
 fn four(to: Streams, going: bool) -> bool {
     let table = algorithms_opcodes::opcodes_4_8();
     let a = show(to, going, &[0x71, 0x14, 0x01, 0x14]);

@@ -3,7 +3,7 @@ use Rattle.std.proofs.Common.{length, ◌-◌, ◌≤◌}
 use Rattle.cases_run.proofs.plans.rows.Given as goal
 
 abbrev pub invariant-loop-start : goal.invariant-loop-start
-invariant-loop-start g l = l.start ≤ length l.table
+invariant-loop-start l = l.start ≤ length l.table
 
 abbrev pub decreases-loop-start : goal.decreases-loop-start
-decreases-loop-start g l = length l.table - l.start
+decreases-loop-start l = length l.table - l.start
