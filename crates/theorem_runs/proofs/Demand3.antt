@@ -27,6 +27,8 @@ state_heard a b e = ap (λ (t : Step). t.state) e
 pub demand_3 : (s : State) (cs ds : List Call) → AllAlike cs ds → map heard (run cs s) ≡ map heard (run ds s)
 unfolding run
 demand_3 s [] [] none = refl
+demand_3 s [] (d ∷ ds) h = elim h [ ]
+demand_3 s (c ∷ cs) [] h = elim h [ ]
 demand_3 s (c ∷ cs) (d ∷ ds) (more first rest) =
     let here = step_alike s first in
     let there = state_heard (step_of c s) (step_of d s) here in
@@ -36,5 +38,7 @@ demand_3 s (c ∷ cs) (d ∷ ds) (more first rest) =
 pub ending_alike : (s : State) (cs ds : List Call) → AllAlike cs ds → ending cs s ≡ ending ds s
 unfolding ending
 ending_alike s [] [] none = refl
+ending_alike s [] (d ∷ ds) h = elim h [ ]
+ending_alike s (c ∷ cs) [] h = elim h [ ]
 ending_alike s (c ∷ cs) (d ∷ ds) (more first rest) =
     rw (state_heard (step_of c s) (step_of d s) (step_alike s first)) (ending_alike (step_of d s).state cs ds rest)

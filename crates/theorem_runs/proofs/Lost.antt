@@ -36,8 +36,8 @@ module _ (v : Voice) where
   refusal_is (voice.Render pairs high low p block) = (refl, refl)
 
   call_refused : state_fits v ≡ false → (call : voice.Call) → voice.answer_to call v ≡ voice.refusal_of call v
-  unfolding voice.answer_to voice.refusal_of set_patch_answer take_patch_answer patch_answer set_transposing_answer setup_answer
-      render_answer
+  unfolding voice.answer_to voice.refusal_of set_patch_answer take_patch_answer patch_answer set_transposing_answer
+      setup_answer render_answer
   call_refused e (voice.SetPatch p table) = rw e refl
   call_refused e voice.TakePatch = rw e refl
   call_refused e voice.GetPatch = rw e refl
