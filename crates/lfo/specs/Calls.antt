@@ -64,7 +64,7 @@ refusal_of AmpMod lfo = Reads (not_read 9)
 
 -- the part of a second that a sample takes, as a fresh LFO has it: from 1 / 192,000 to 1 / 8,000
 unfoldable pub one_hz_fits : Float → Bool
-one_hz_fits oneHz = le (decimal 1 0 ⊘ decimal 192000 0) oneHz && le oneHz (decimal 1 0 ⊘ decimal 8000 0)
+one_hz_fits one_hz = le (decimal 1 0 ⊘ decimal 192000 0) one_hz && le one_hz (decimal 1 0 ⊘ decimal 8000 0)
 
 -- a state that 9 accepts, with an f32 for its phase and a sample's part of a second as a fresh LFO has it
 pub record Valid (lfo : Lfo) : Type 0 where

@@ -20,14 +20,14 @@ waveform_of n = get_or (Triangle ∷ RampDown ∷ RampUp ∷ Square ∷ Sine ∷
 
 -- an LFO at rest; it stands still, at the frequency 0, until a patch sets one
 unfoldable pub fresh_lfo : Float → Float → Lfo
-fresh_lfo oneHz increment = record {
+fresh_lfo one_hz increment = record {
   phase = decimal 0 0;
   frequency = decimal 0 0;
   delay_phase = decimal 0 0;
   delay_increment = increment ∷ increment ∷ [];
   value = decimal 0 0;
   random_value = decimal 0 0;
-  one_hz = oneHz;
+  one_hz = one_hz;
   amp_mod_depth = decimal 0 0;
   pitch_mod_depth = decimal 0 0;
   waveform = Triangle;
