@@ -66,13 +66,13 @@ rendered_by operators os = pick (reused os) (renders operators os (grown os)) (r
 
 -- a buffer that is asked for is not ready
 abbrev pub Unset : Bool → Bool → Type 0
-Unset asked isReady = (asked ≡ true) × (isReady ≡ false)
+Unset asked is_ready = (asked ≡ true) × (is_ready ≡ false)
 
-module _ (isReady : ℕ → Bool) (c : Call) where
-  pub unset_cases : unready isReady c ≡ true
-      → Unset (reading c) (isReady c.input) ⊎ Unset c.add (isReady c.output)
+module _ (is_ready : ℕ → Bool) (c : Call) where
+  pub unset_cases : unready is_ready c ≡ true
+      → Unset (reading c) (is_ready c.input) ⊎ Unset c.add (is_ready c.output)
   unfolding unready
-  unset_cases e = pick (reading c) (isReady c.input) c.add (isReady c.output) e
+  unset_cases e = pick (reading c) (is_ready c.input) c.add (is_ready c.output) e
     where
       pick : (a r b s : Bool) → ((a && not r) || (b && not s)) ≡ true → Unset a r ⊎ Unset b s
       pick true false b s e = inl (refl, refl)
@@ -83,13 +83,13 @@ module _ (isReady : ℕ → Bool) (c : Call) where
       pick false r true true e = absurd (false≢true e)
       pick false r false s e = absurd (false≢true e)
 
-  pub unset_read : Unset (reading c) (isReady c.input) → unready isReady c ≡ true
+  pub unset_read : Unset (reading c) (is_ready c.input) → unready is_ready c ≡ true
   unfolding unready
   unset_read h = rw (h.0, h.1) refl
 
-  pub unset_added : Unset c.add (isReady c.output) → unready isReady c ≡ true
+  pub unset_added : Unset c.add (is_ready c.output) → unready is_ready c ≡ true
   unfolding unready
-  unset_added h = pick (reading c && not (isReady c.input)) c.add (isReady c.output) h.0 h.1
+  unset_added h = pick (reading c && not (is_ready c.input)) c.add (is_ready c.output) h.0 h.1
     where
       pick : (a b s : Bool) → b ≡ true → s ≡ false → (a || (b && not s)) ≡ true
       pick true b s e f = refl

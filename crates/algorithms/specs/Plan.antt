@@ -35,9 +35,9 @@ unfoldable pub ready : List Call → ℕ → ℕ → Bool
 ready cs zero q = eqb q 0
 ready cs (suc k) q = (eqb q (get_or cs k no_call).output && not (get_or cs k no_call).add) || ready cs k q
 
--- the call reads or adds to a scratch buffer that no earlier call has set; `isReady` says which buffers are ready
+-- the call reads or adds to a scratch buffer that no earlier call has set; `is_ready` says which buffers are ready
 unfoldable pub unready : (ℕ → Bool) → Call → Bool
-unready isReady c = (reading c && not (isReady c.input)) || (c.add && not (isReady c.output))
+unready is_ready c = (reading c && not (is_ready c.input)) || (c.add && not (is_ready c.output))
 
 -- the plan with one call more
 unfoldable pub extended : Plan → Call → Plan

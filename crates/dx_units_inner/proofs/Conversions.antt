@@ -109,16 +109,16 @@ module _ (x : Float) (curve depth : ℕ) {a t : Float} (ea : a ≡ magnitude x) 
   unfolding side_scaling
   side_up h = simp (le-ltb curve 2 h, et, ea)
 
-module _ (note : Float) (leftDepth rightDepth leftCurve rightCurve breakPoint : ℕ) {r : Float} where
-  pub on_right : lt (decimal 0 0) (note ⊖ as_float breakPoint ⊖ decimal 15 0) ≡ true
-      → r ≡ side_scaling (note ⊖ as_float breakPoint ⊖ decimal 15 0) rightCurve rightDepth
-      → r ≡ keyboard_scaling_of note leftDepth rightDepth leftCurve rightCurve breakPoint
+module _ (note : Float) (left_depth right_depth left_curve right_curve break_point : ℕ) {r : Float} where
+  pub on_right : lt (decimal 0 0) (note ⊖ as_float break_point ⊖ decimal 15 0) ≡ true
+      → r ≡ side_scaling (note ⊖ as_float break_point ⊖ decimal 15 0) right_curve right_depth
+      → r ≡ keyboard_scaling_of note left_depth right_depth left_curve right_curve break_point
   unfolding keyboard_scaling_of
   on_right h e = simp h e
 
-  pub on_left : lt (decimal 0 0) (note ⊖ as_float breakPoint ⊖ decimal 15 0) ≡ false
-      → r ≡ side_scaling (note ⊖ as_float breakPoint ⊖ decimal 15 0) leftCurve leftDepth
-      → r ≡ keyboard_scaling_of note leftDepth rightDepth leftCurve rightCurve breakPoint
+  pub on_left : lt (decimal 0 0) (note ⊖ as_float break_point ⊖ decimal 15 0) ≡ false
+      → r ≡ side_scaling (note ⊖ as_float break_point ⊖ decimal 15 0) left_curve left_depth
+      → r ≡ keyboard_scaling_of note left_depth right_depth left_curve right_curve break_point
   unfolding keyboard_scaling_of
   on_left h e = simp h e
 

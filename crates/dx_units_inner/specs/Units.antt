@@ -113,9 +113,9 @@ side_scaling x curve depth =
 
 -- the level's change in steps at a note; break point 0 is note 15
 unfoldable pub keyboard_scaling_of : Float → ℕ → ℕ → ℕ → ℕ → ℕ → Float
-keyboard_scaling_of note leftDepth rightDepth leftCurve rightCurve breakPoint =
-    let x = note ⊖ as_float breakPoint ⊖ decimal 15 0 in
-    cond (lt (decimal 0 0) x) (side_scaling x rightCurve rightDepth) (side_scaling x leftCurve leftDepth)
+keyboard_scaling_of note left_depth right_depth left_curve right_curve break_point =
+    let x = note ⊖ as_float break_point ⊖ decimal 15 0 in
+    cond (lt (decimal 0 0) x) (side_scaling x right_curve right_depth) (side_scaling x left_curve left_depth)
 
 -- the semitones of the ratio that a coarse number, 0 to 31, names
 unfoldable pub coarse_semitones : ℕ → Float

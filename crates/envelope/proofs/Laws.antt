@@ -11,14 +11,14 @@ use Rattle.envelope_inner.proofs.Laws.{rendered_stage}
 use Rattle.envelope.specs.Answers.{state_fits, operator_fits, pitch_fits}
 use Rattle.envelope.specs.Answers.{set_answer, operator_set_answer, pitch_set_answer, render_answer}
 
-module _ (reshape gate : Bool) (rate adScale releaseScale : Float) (e : Envelope) where
-  pub render_keeps_9 : state_fits (render_answer reshape gate rate adScale releaseScale e).envelope ≡ state_fits e
+module _ (reshape gate : Bool) (rate ad_scale release_scale : Float) (e : Envelope) where
+  pub render_keeps_9 : state_fits (render_answer reshape gate rate ad_scale release_scale e).envelope ≡ state_fits e
   unfolding render_answer
   render_keeps_9 = go (state_fits e) refl
     where
       go : (b : Bool) → state_fits e ≡ b
-          → state_fits (render_answer reshape gate rate adScale releaseScale e).envelope ≡ state_fits e
-      go true h = rw h (le-leb _ _ (rendered_stage reshape gate rate adScale releaseScale e (leb-true e.stage 3 h)))
+          → state_fits (render_answer reshape gate rate ad_scale release_scale e).envelope ≡ state_fits e
+      go true h = rw h (le-leb _ _ (rendered_stage reshape gate rate ad_scale release_scale e (leb-true e.stage 3 h)))
       go false h = rw h h
 
 -- setting leaves the stage, refused or not
@@ -31,13 +31,13 @@ set_keeps_9 e increment level = go (state_fits e) refl
     go true h = rw h
     go false h = rw h
 
-module _ (e : Envelope) (rate level : List ℕ) (globalLevel : ℕ) where
-  pub operator_set_keeps_9 : (operator_set_answer e rate level globalLevel).envelope.stage ≡ e.stage
+module _ (e : Envelope) (rate level : List ℕ) (global_level : ℕ) where
+  pub operator_set_keeps_9 : (operator_set_answer e rate level global_level).envelope.stage ≡ e.stage
   unfolding operator_set_answer operator_set
-  operator_set_keeps_9 = go (state_fits e) (operator_fits rate level globalLevel) refl refl
+  operator_set_keeps_9 = go (state_fits e) (operator_fits rate level global_level) refl refl
     where
-      go : (b f : Bool) → state_fits e ≡ b → operator_fits rate level globalLevel ≡ f
-          → (operator_set_answer e rate level globalLevel).envelope.stage ≡ e.stage
+      go : (b f : Bool) → state_fits e ≡ b → operator_fits rate level global_level ≡ f
+          → (operator_set_answer e rate level global_level).envelope.stage ≡ e.stage
       go true true h k = rw (h, k)
       go true false h k = rw (h, k)
       go false f h k = rw h

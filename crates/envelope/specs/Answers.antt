@@ -23,7 +23,7 @@ pitch_fits rate level = stages_fit rate && stages_fit level
 
 -- and a global level at most 127
 unfoldable pub operator_fits : List ℕ → List ℕ → ℕ → Bool
-operator_fits rate level globalLevel = pitch_fits rate level && leb globalLevel 127
+operator_fits rate level global_level = pitch_fits rate level && leb global_level 127
 
 -- ---- the answers
 
@@ -41,9 +41,9 @@ unfoldable pub set_answer : Envelope → List Float → List Float → Prepared
 set_answer e increment level = cond (state_fits e) (prepared 0 (set_to e increment level)) (prepared 9 e)
 
 unfoldable pub operator_set_answer : Envelope → List ℕ → List ℕ → ℕ → Prepared
-operator_set_answer e rate level globalLevel =
+operator_set_answer e rate level global_level =
     cond (state_fits e)
-    (cond (operator_fits rate level globalLevel) (prepared 0 (operator_set e rate level globalLevel)) (prepared 6 e))
+    (cond (operator_fits rate level global_level) (prepared 0 (operator_set e rate level global_level)) (prepared 6 e))
     (prepared 9 e)
 
 unfoldable pub pitch_set_answer : Envelope → List ℕ → List ℕ → Prepared
@@ -52,14 +52,14 @@ pitch_set_answer e rate level =
     (prepared 9 e)
 
 unfoldable pub render_answer : Bool → Bool → Float → Float → Float → Envelope → Rendered
-render_answer reshape gate rate adScale releaseScale e =
-    let r = rendered reshape gate rate adScale releaseScale e in
+render_answer reshape gate rate ad_scale release_scale e =
+    let r = rendered reshape gate rate ad_scale release_scale e in
     cond (state_fits e) (record { number = 0; envelope = r; value = current_value reshape r }) (not_rendered 9 e)
 
 -- the scrub with one call of its own, which is enough (`asks_once`)
 unfoldable pub scrub_answer : Bool → Envelope → Float → Float → Read
-scrub_answer reshape e t gateDuration =
-    cond (state_fits e) (record { number = 0; value = scrubbed 1 reshape e t gateDuration }) (not_read 9)
+scrub_answer reshape e t gate_duration =
+    cond (state_fits e) (record { number = 0; value = scrubbed 1 reshape e t gate_duration }) (not_read 9)
 
 unfoldable pub current_value_answer : Bool → Envelope → Read
 current_value_answer reshape e =

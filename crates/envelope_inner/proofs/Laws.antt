@@ -97,31 +97,31 @@ module _ (phase : Float) (e : Envelope) where
   unfolding advanced
   left_over_dropped p b = rw (p, b)
 
-module _ (reshape gate : Bool) (rate adScale releaseScale : Float) (e : Envelope) where
+module _ (reshape gate : Bool) (rate ad_scale release_scale : Float) (e : Envelope) where
   -- a render of a state that is not refused gives one that is not refused
-  pub rendered_stage : e.stage ≤ 3 → (rendered reshape gate rate adScale releaseScale e).stage ≤ 3
+  pub rendered_stage : e.stage ≤ 3 → (rendered reshape gate rate ad_scale release_scale e).stage ≤ 3
   unfolding rendered
   rendered_stage h =
       let g = gated reshape gate e in
-      advanced_stage (stepped_phase rate adScale releaseScale g) g (gated_stage reshape gate e h)
+      advanced_stage (stepped_phase rate ad_scale release_scale g) g (gated_stage reshape gate e h)
 
   -- and moves nothing but stage, phase and start
   pub rendered_moves :
-      let r = rendered reshape gate rate adScale releaseScale e in
+      let r = rendered reshape gate rate ad_scale release_scale e in
       r ≡ moved_to e r.stage r.phase r.start
   unfolding rendered
   rendered_moves =
       let g = gated reshape gate e in
-      let r = advanced (stepped_phase rate adScale releaseScale g) g in
-      advanced_moves (stepped_phase rate adScale releaseScale g) g
+      let r = advanced (stepped_phase rate ad_scale release_scale g) g in
+      advanced_moves (stepped_phase rate ad_scale release_scale g) g
       ∙ ap (λ (h : Envelope). moved_to h r.stage r.phase r.start) (gated_moves reshape gate e)
 
 -- ---- setting
 
-module _ (e : Envelope) (rate level : List ℕ) (globalLevel : ℕ) where
+module _ (e : Envelope) (rate level : List ℕ) (global_level : ℕ) where
   -- it changes nothing but increments and levels
   pub operator_set_sets :
-      let s = operator_set e rate level globalLevel in
+      let s = operator_set e rate level global_level in
       s ≡ set_to e s.increment s.level
   unfolding operator_set
   operator_set_sets = refl

@@ -45,17 +45,17 @@ module _ (reshape gate : Bool) (e : Envelope) (q : Position) where
       go true b = rw b
       go false b = rw b
 
-module _ (reshape gate : Bool) (rate adScale releaseScale : Float) (e : Envelope) {f : Position}
+module _ (reshape gate : Bool) (rate ad_scale release_scale : Float) (e : Envelope) {f : Position}
     (ef : standing e f ≡ gated reshape gate e) where
   -- the gate's stage is one that there is
   pub followed_stage : e.stage ≤ 3 → f.stage ≤ 3
   followed_stage h = rw (ap (λ (g : Envelope). g.stage) ef) (gated_stage reshape gate e h)
 
   -- the gate, the step and the advance are a call
-  pub rendered_of : {phase : Float} {r : Position} → phase ≡ stepped_phase rate adScale releaseScale (standing e f)
+  pub rendered_of : {phase : Float} {r : Position} → phase ≡ stepped_phase rate ad_scale release_scale (standing e f)
       → standing e r ≡ advanced phase (standing e f)
-      → standing e r ≡ rendered reshape gate rate adScale releaseScale e
+      → standing e r ≡ rendered reshape gate rate ad_scale release_scale e
   unfolding rendered
   rendered_of ep er =
       er ∙ ap (λ (p : Float). advanced p (standing e f)) ep
-      ∙ ap (λ (g : Envelope). advanced (stepped_phase rate adScale releaseScale g) g) ef
+      ∙ ap (λ (g : Envelope). advanced (stepped_phase rate ad_scale release_scale g) g) ef

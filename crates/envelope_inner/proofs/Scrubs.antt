@@ -23,35 +23,35 @@ lt_self (fin false m e) = le-ltb (m * up e * down e) (m * up e * down e) (le_ref
 
 module _ (reshape : Bool) (e : Envelope) where
   -- with no call allowed, the gate counts as open
-  pub scrubbed_last : (calls : ℕ) (t gateDuration : Float) → calls ≡ 0
-      → scrubbed calls reshape e t gateDuration ≡ held reshape e t gateDuration
+  pub scrubbed_last : (calls : ℕ) (t gate_duration : Float) → calls ≡ 0
+      → scrubbed calls reshape e t gate_duration ≡ held reshape e t gate_duration
   unfolding scrubbed
-  scrubbed_last calls t gateDuration z = rw z
+  scrubbed_last calls t gate_duration z = rw z
 
   -- up to the gate's end
-  pub scrubbed_held : (calls : ℕ) (t gateDuration : Float) → lt gateDuration t ≡ false
-      → scrubbed calls reshape e t gateDuration ≡ held reshape e t gateDuration
+  pub scrubbed_held : (calls : ℕ) (t gate_duration : Float) → lt gate_duration t ≡ false
+      → scrubbed calls reshape e t gate_duration ≡ held reshape e t gate_duration
   unfolding scrubbed
-  scrubbed_held zero t gateDuration h = refl
-  scrubbed_held (suc calls) t gateDuration h = rw h
+  scrubbed_held zero t gate_duration h = refl
+  scrubbed_held (suc calls) t gate_duration h = rw h
 
   -- past it
-  pub scrubbed_released : (calls : ℕ) (t gateDuration : Float) → (calls ≡ 0 → ⊥) → lt gateDuration t ≡ true
-      → scrubbed calls reshape e t gateDuration
-      ≡ released reshape e (t ⊖ gateDuration) (scrubbed (calls - 1) reshape e gateDuration gateDuration)
+  pub scrubbed_released : (calls : ℕ) (t gate_duration : Float) → (calls ≡ 0 → ⊥) → lt gate_duration t ≡ true
+      → scrubbed calls reshape e t gate_duration
+      ≡ released reshape e (t ⊖ gate_duration) (scrubbed (calls - 1) reshape e gate_duration gate_duration)
   unfolding scrubbed
-  scrubbed_released zero t gateDuration n h = absurd (n refl)
-  scrubbed_released (suc calls) t gateDuration n h = rw (h, sub-one)
+  scrubbed_released zero t gate_duration n h = absurd (n refl)
+  scrubbed_released (suc calls) t gate_duration n h = rw (h, sub-one)
 
-  module _ (calls : ℕ) (t gateDuration : Float) (past : lt gateDuration t ≡ true) where
+  module _ (calls : ℕ) (t gate_duration : Float) (past : lt gate_duration t ≡ true) where
     -- one call is enough: the level at the gate's end is that of an open gate
-    pub asks_once : scrubbed (suc calls) reshape e t gateDuration
-        ≡ released reshape e (t ⊖ gateDuration) (held reshape e gateDuration gateDuration)
+    pub asks_once : scrubbed (suc calls) reshape e t gate_duration
+        ≡ released reshape e (t ⊖ gate_duration) (held reshape e gate_duration gate_duration)
     unfolding scrubbed
-    asks_once = rw (past, scrubbed_held calls gateDuration gateDuration (lt_self gateDuration))
+    asks_once = rw (past, scrubbed_held calls gate_duration gate_duration (lt_self gate_duration))
 
     -- the release is over
-    pub released_level : le (decimal 1 0) ((t ⊖ gateDuration) ⊗ increment_at e 3) ≡ true
-        → scrubbed (suc calls) reshape e t gateDuration ≡ level_at e 3
+    pub released_level : le (decimal 1 0) ((t ⊖ gate_duration) ⊗ increment_at e 3) ≡ true
+        → scrubbed (suc calls) reshape e t gate_duration ≡ level_at e 3
     unfolding scrubbed released
     released_level over = rw (past, over)

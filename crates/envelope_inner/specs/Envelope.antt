@@ -102,8 +102,8 @@ gated reshape gate e =
 
 -- the phase a call further; the last stage has a scale of its own
 unfoldable pub stepped_phase : Float → Float → Float → Envelope → Float
-stepped_phase rate adScale releaseScale e =
-    e.phase ⊕ increment_at e e.stage ⊗ rate ⊗ cond (eqb e.stage 3) releaseScale adScale
+stepped_phase rate ad_scale release_scale e =
+    e.phase ⊕ increment_at e e.stage ⊗ rate ⊗ cond (eqb e.stage 3) release_scale ad_scale
 
 -- a phase that reaches 1 ends its stage: the first two make room for the next, one only, and the phase left over is
 -- dropped; the others are held at 1
@@ -117,6 +117,6 @@ advanced phase e =
 
 -- one call: the gate, then the step, then at most one stage further
 unfoldable pub rendered : Bool → Bool → Float → Float → Float → Envelope → Envelope
-rendered reshape gate rate adScale releaseScale e =
+rendered reshape gate rate ad_scale release_scale e =
     let g = gated reshape gate e in
-    advanced (stepped_phase rate adScale releaseScale g) g
+    advanced (stepped_phase rate ad_scale release_scale g) g

@@ -30,11 +30,11 @@ past_stages reshape e t =
 
 -- at a time of an open gate: in one of the first three stages, or past them all
 unfoldable pub held : Bool → Envelope → Float → Float → Float
-held reshape e t gateDuration =
+held reshape e t gate_duration =
     let p = reached 3 0 e.increment t in
     cond (ltb p.stage 3)
     (value_at reshape e p.stage (p.t ⊗ increment_at e p.stage) previous_level)
-    (past_stages reshape e (p.t ⊖ gateDuration))
+    (past_stages reshape e (p.t ⊖ gate_duration))
 
 -- at a time after the gate's end, from the level there; a phase of exactly 1 ends the release here
 unfoldable pub released : Bool → Envelope → Float → Float → Float
@@ -45,8 +45,8 @@ released reshape e t start =
 -- with so many calls of itself allowed: past the gate's end it asks itself for the level there, which is once, since
 -- the gate's end is not past itself
 unfoldable pub scrubbed : ℕ → Bool → Envelope → Float → Float → Float
-scrubbed zero reshape e t gateDuration = held reshape e t gateDuration
-scrubbed (suc calls) reshape e t gateDuration =
-    cond (lt gateDuration t)
-    (released reshape e (t ⊖ gateDuration) (scrubbed calls reshape e gateDuration gateDuration))
-    (held reshape e t gateDuration)
+scrubbed zero reshape e t gate_duration = held reshape e t gate_duration
+scrubbed (suc calls) reshape e t gate_duration =
+    cond (lt gate_duration t)
+    (released reshape e (t ⊖ gate_duration) (scrubbed calls reshape e gate_duration gate_duration))
+    (held reshape e t gate_duration)

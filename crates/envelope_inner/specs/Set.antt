@@ -15,8 +15,8 @@ set_to e increment level = record {
 }
 
 unfoldable pub operator_set : Envelope → List ℕ → List ℕ → ℕ → Envelope
-operator_set e rate level globalLevel =
-    let levels = operator_levels level globalLevel in
+operator_set e rate level global_level =
+    let levels = operator_levels level global_level in
     set_to e (operator_increments rate levels (eqb (get_or level 0 0) 0) e.scale) levels
 
 unfoldable pub pitch_set : Envelope → List ℕ → List ℕ → Envelope

@@ -29,8 +29,8 @@ OnChart level = (get_or level 0 0 ≤ 99) × (get_or level 1 0 ≤ 99) × (get_o
 -- an eighth of the converted level, made even, plus the global level less 133; of a half where that is below 1. 125
 -- might be expected in place of 133, which the Rust remarks and leaves
 unfoldable pub operator_stage_level : ℕ → ℕ → Float
-operator_stage_level level globalLevel =
-    let scaled = operator_level level / 2 * 2 + globalLevel in
+operator_stage_level level global_level =
+    let scaled = operator_level level / 2 * 2 + global_level in
     decimal 125 3 ⊗ cond (ltb scaled 134) (decimal 5 1) (as_float (scaled - 133))
 
 -- a rising stage: where both ends are lifted to 6.7 it is over at once, and its shape makes it faster otherwise
@@ -48,7 +48,7 @@ operator_stage_increment rate from to fast =
     (cond (lt from to) (rising_increment increment from to) (increment ⊗ (decimal 1 0 ⊘ (from ⊖ to))))
 
 unfoldable pub operator_levels : List ℕ → ℕ → List Float
-operator_levels level globalLevel = per_stage (λ i. operator_stage_level (get_or level i 0) globalLevel)
+operator_levels level global_level = per_stage (λ i. operator_stage_level (get_or level i 0) global_level)
 
 -- the first stage is fast where its level is 0
 unfoldable pub operator_increments : List ℕ → List Float → Bool → Float → List Float

@@ -9,7 +9,7 @@ use Rattle.sine.specs.Pairs.{sine_pairs}
 use Rattle.units.specs.Tables.{lut_pitch_ratio_high, lut_pitch_ratio_low}
 use Rattle.patch.specs.declared.Patch.{Patch}
 use Rattle.algorithms_opcodes.specs.Opcodes.{six_operators}
-use Rattle.lfo.specs.declared.Prepared as lfoPrepared
+use Rattle.lfo.specs.declared.Prepared as LfoPrepared
 use Rattle.lfo.specs.declared.Moved.{Moved}
 use Rattle.lfo.specs.declared.Read.{Read}
 use Rattle.lfo.specs.Answers as lfo
@@ -49,7 +49,7 @@ hashed_next block n hash eh ew eg = rw (add-one n, eg, eh, ew) refl
 
 -- a voice with the patch, an LFO set to it and reset
 pub readied_of : (p : Patch) {table : List ℕ} {made : Prepared} {loaded : Loaded}
-    {started set restarted : lfoPrepared.Prepared} {number : ℕ}
+    {started set restarted : LfoPrepared.Prepared} {number : ℕ}
     → table ≡ six_operators → made ≡ voice.init_answer 6 (decimal 48000 0)
     → loaded ≡ voice.set_patch_answer made.voice p table
     → started ≡ lfo.init_answer (decimal 48000 0) → set ≡ lfo.set_answer started.lfo p.modulations

@@ -30,15 +30,15 @@ readied p =
 
 -- velocity 0.8, brightness and envelope control 0.5, no sustain
 unfoldable pub parameters_of : Float → Bool → Float → Float → VoiceParameters
-parameters_of note gate pitchMod ampMod = record {
+parameters_of note gate pitch_mod amp_mod = record {
   sustain = false;
   gate = gate;
   note = note;
   velocity = decimal 8 1;
   brightness = decimal 5 1;
   envelope_control = decimal 5 1;
-  pitch_mod = pitchMod;
-  amp_mod = ampMod;
+  pitch_mod = pitch_mod;
+  amp_mod = amp_mod;
 }
 
 -- what a block of 64 samples begins with: the output and the three scratch quarters, cleared

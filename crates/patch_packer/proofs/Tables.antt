@@ -136,15 +136,15 @@ eqb_add base a b = at (eqb a b) refl
     at false q = ne_eqb (base + a) (base + b) (λ e. eqb-false a b q (omega arith))
 
 -- fields under other names, some bytes later, give the same bytes there
-module _ {M N : Type 0} (fieldM : M → Field) (field : N → Field) (g : N → ℕ) (f : M → N) (base : ℕ)
-    (moved : (m : M) → field (f m) ≡ later base (fieldM m)) where
-  later_byte : (ms : List M) (k : ℕ) → byte_of field g (map f ms) (base + k) ≡ byte_of fieldM (λ m. g (f m)) ms k
+module _ {M N : Type 0} (field_m : M → Field) (field : N → Field) (g : N → ℕ) (f : M → N) (base : ℕ)
+    (moved : (m : M) → field (f m) ≡ later base (field_m m)) where
+  later_byte : (ms : List M) (k : ℕ) → byte_of field g (map f ms) (base + k) ≡ byte_of field_m (λ m. g (f m)) ms k
   unfolding byte_of placed later
   later_byte [] k = refl
-  later_byte (m ∷ ms) k = rw (moved m, eqb_add base (fieldM m).byte k, later_byte ms k)
+  later_byte (m ∷ ms) k = rw (moved m, eqb_add base (field_m m).byte k, later_byte ms k)
 
   pub bytes_later : (ms : List M) (count k : ℕ)
-      → bytes_of field g (map f ms) (base + k) count ≡ bytes_of fieldM (λ m. g (f m)) ms k count
+      → bytes_of field g (map f ms) (base + k) count ≡ bytes_of field_m (λ m. g (f m)) ms k count
   unfolding bytes_of
   bytes_later ms zero k = refl
   bytes_later ms (suc count) k =

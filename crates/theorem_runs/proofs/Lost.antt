@@ -7,9 +7,9 @@ use Prim.Native.Nat.{ℕ}
 use lib.Dec.{T}
 use lib.Ieee.{Float}
 use Rattle.lfo_inner.specs.declared.Lfo.{Lfo}
-use Rattle.lfo.specs.Answers as lfoAnswers
+use Rattle.lfo.specs.Answers as LfoAnswers
 use Rattle.lfo.specs.Calls as lfo
-use Rattle.lfo.proofs.Calls as lfoLaws
+use Rattle.lfo.proofs.Calls as LfoLaws
 use Rattle.voice.specs.declared.Voice.{Voice}
 use Rattle.voice.specs.Voice.{no_voice}
 use Rattle.voice.specs.Answers.{state_fits, init_answer, set_patch_answer, take_patch_answer, patch_answer}
@@ -88,28 +88,28 @@ lfo_refusal_is l lfo.DelayRamp = (refl, refl)
 lfo_refusal_is l lfo.PitchMod = (refl, refl)
 lfo_refusal_is l lfo.AmpMod = (refl, refl)
 
-pub lfo_refused : (s : State) → lfoAnswers.state_fits s.lfo ≡ false → (call : lfo.Call)
+pub lfo_refused : (s : State) → LfoAnswers.state_fits s.lfo ≡ false → (call : lfo.Call)
     → step_of (OfLfo call) s ≡ record { answer = FromLfo (lfo.refusal_of call s.lfo); state = s }
 unfolding step_of
-lfo_refused s e call = rw (lfoLaws.call_refused s.lfo e call, (lfo_refusal_is s.lfo call).1) refl
+lfo_refused s e call = rw (LfoLaws.call_refused s.lfo e call, (lfo_refusal_is s.lfo call).1) refl
 
-lfo_stays : (l : Lfo) → lfoAnswers.state_fits l ≡ false → (s : State) → s.lfo ≡ l → (call : Call) → T (keeps_lfo call)
+lfo_stays : (l : Lfo) → LfoAnswers.state_fits l ≡ false → (s : State) → s.lfo ≡ l → (call : Call) → T (keeps_lfo call)
     → ((step_of call s).state.lfo ≡ l) × T (lfo_nine call (step_of call s))
 unfolding keeps_lfo lfo_nine is_nine
 lfo_stays l e s h (Start stores operators rate) t = unfold step_of in (h, tt)
 lfo_stays l e s h (OfVoice call) t = unfold step_of in (h, tt)
 lfo_stays l e s h (StartLfo stores rate) t = absurd t
 lfo_stays l e s h (OfLfo call) t =
-    rw (lfo_refused s (ap lfoAnswers.state_fits h ∙ e) call, (lfo_refusal_is s.lfo call).0) (h, tt)
+    rw (lfo_refused s (ap LfoAnswers.state_fits h ∙ e) call, (lfo_refusal_is s.lfo call).0) (h, tt)
 
-pub lfo_lost : (rate : Float) → ((lfoAnswers.init_answer rate).number ≡ 0 → ⊥)
+pub lfo_lost : (rate : Float) → ((LfoAnswers.init_answer rate).number ≡ 0 → ⊥)
     → (s : State) (calls : List Call) → T (each keeps_lfo calls)
     → let lost = (step_of (StartLfo true rate) s).state in
-    ((ending calls lost).lfo ≡ lfoAnswers.no_lfo) × T (throughout lfo_nine calls (run calls lost))
+    ((ending calls lost).lfo ≡ LfoAnswers.no_lfo) × T (throughout lfo_nine calls (run calls lost))
 lfo_lost rate n s calls t =
     let lost = (step_of (StartLfo true rate) s).state in
-    let here : lost.lfo ≡ lfoAnswers.no_lfo = (unfold step_of in lfoLaws.refused_init rate n) in
-    let stays = lfo_stays lfoAnswers.no_lfo lfoLaws.no_lfo_refused in (
-      ending_has (λ s. s.lfo ≡ lfoAnswers.no_lfo) keeps_lfo lfo_nine stays calls lost here t,
-      run_passes (λ s. s.lfo ≡ lfoAnswers.no_lfo) keeps_lfo lfo_nine stays calls lost here t,
+    let here : lost.lfo ≡ LfoAnswers.no_lfo = (unfold step_of in LfoLaws.refused_init rate n) in
+    let stays = lfo_stays LfoAnswers.no_lfo LfoLaws.no_lfo_refused in (
+      ending_has (λ s. s.lfo ≡ LfoAnswers.no_lfo) keeps_lfo lfo_nine stays calls lost here t,
+      run_passes (λ s. s.lfo ≡ LfoAnswers.no_lfo) keeps_lfo lfo_nine stays calls lost here t,
     )

@@ -10,7 +10,7 @@ use lib.Ieee.{Float}
 use lib.Ieee.Fits.{and_i, and_l, and_r}
 use Rattle.units.specs.Tables.{lut_pitch_ratio_high, lut_pitch_ratio_low}
 use Rattle.algorithms.specs.Plan.{counted}
-use Rattle.lfo.specs.Answers as lfoAnswers
+use Rattle.lfo.specs.Answers as LfoAnswers
 use Rattle.lfo.specs.Calls.{Valid}
 use Rattle.lfo.proofs.Calls as lfo
 use Rattle.patch_limits.specs.Ranges.{sample_rate_fits}
@@ -88,7 +88,7 @@ step_keeps s g (OfVoice call) t =
     let k = voice_keeps s.voice g.voice call in
     (record { voice = k.0; lfo = g.lfo }, k.1)
 step_keeps s g (StartLfo stores rate) t =
-    let a = lfoAnswers.init_answer rate in
+    let a = LfoAnswers.init_answer rate in
     let k = lfo.init_keeps rate in
     let l = stored_has Valid stores a.number a.lfo s.lfo g.lfo k.1 t in
     (record { voice = g.voice; lfo = l }, k.0)
@@ -105,14 +105,14 @@ pub never_9 : (calls : List Call) (s : State) → Good s → T (each careful cal
     → T (throughout not_nine calls (run calls s))
 never_9 = run_passes Good careful not_nine step_keeps
 
-module _ (operators : ℕ) (rate lfoRate : Float) (t : T (counted operators)) (u : T (sample_rate_fits rate))
-    (w : T (sample_rate_fits lfoRate)) where
+module _ (operators : ℕ) (rate lfo_rate : Float) (t : T (counted operators)) (u : T (sample_rate_fits rate))
+    (w : T (sample_rate_fits lfo_rate)) where
   -- a voice and an LFO that were started with sample rates that fit
-  pub fresh_good : Good (fresh operators rate lfoRate)
+  pub fresh_good : Good (fresh operators rate lfo_rate)
   unfolding fresh
-  fresh_good = record { voice = init_fits operators rate t u; lfo = lfo.init_valid lfoRate w }
+  fresh_good = record { voice = init_fits operators rate t u; lfo = lfo.init_valid lfo_rate w }
 
   -- from there on no run, accepted or refused, meets a 9
   pub fresh_never_9 : (calls : List Call) → T (each careful calls)
-      → T (throughout not_nine calls (run calls (fresh operators rate lfoRate)))
-  fresh_never_9 calls = never_9 calls (fresh operators rate lfoRate) fresh_good
+      → T (throughout not_nine calls (run calls (fresh operators rate lfo_rate)))
+  fresh_never_9 calls = never_9 calls (fresh operators rate lfo_rate) fresh_good

@@ -13,8 +13,8 @@ pub record Good (s : State) : Type 0 where
 
 -- what a voice and an LFO start from
 unfoldable pub fresh : ℕ → Float → Float → State
-fresh operators rate lfoRate =
-    record { voice = (init_answer operators rate).voice; lfo = (lfo.init_answer lfoRate).lfo }
+fresh operators rate lfo_rate =
+    record { voice = (init_answer operators rate).voice; lfo = (lfo.init_answer lfo_rate).lfo }
 
 -- ---- a test of every call of a list, and of what every call of a run gave
 

@@ -2,7 +2,7 @@
 -- answer, buffers and generator's number included, and the state that the next call gets. Definitions only.
 use Rattle.std.specs.Prelude.{ℕ, Bool, cond, ◌||◌, List, [], ◌∷◌, eqb, Float}
 use Rattle.lfo_inner.specs.declared.Lfo.{Lfo}
-use Rattle.lfo.specs.Answers as lfoAnswers
+use Rattle.lfo.specs.Answers as LfoAnswers
 use Rattle.lfo.specs.Calls as lfo
 use Rattle.voice.specs.declared.Voice.{Voice}
 use Rattle.voice.specs.Answers.{init_answer}
@@ -55,7 +55,7 @@ step_of (OfVoice call) s =
     let a = voice.answer_to call s.voice in
     record { answer = FromVoice a; state = with_voice s (voice.voice_after s.voice a) }
 step_of (StartLfo stores rate) s =
-    let a = lfoAnswers.init_answer rate in
+    let a = LfoAnswers.init_answer rate in
     let l = stored stores a.number a.lfo s.lfo in
     record { answer = FromLfo (lfo.Prepares a); state = with_lfo s l }
 step_of (OfLfo call) s =

@@ -22,12 +22,12 @@ six_of a = a ∷ a ∷ a ∷ a ∷ a ∷ a ∷ []
 -- a voice that has played nothing: dirty, without a patch, its switch off, note 48, velocity 10; envelopes are scaled
 -- from 44,100 Hz
 unfoldable pub voice_with : ℕ → Float → Float → Float → Voice
-voice_with operators sampleRate oneHz a0 =
-    let e = initialised (decimal 44100 0 ⊗ oneHz) in
+voice_with operators sample_rate one_hz a0 =
+    let e = initialised (decimal 44100 0 ⊗ one_hz) in
     record {
       operators = operators;
-      sample_rate = sampleRate;
-      one_hz = oneHz;
+      sample_rate = sample_rate;
+      one_hz = one_hz;
       a0 = a0;
       gate = false;
       operator = six_of still;
@@ -48,8 +48,8 @@ voice_with operators sampleRate oneHz a0 =
 
 -- a fresh voice: 1 Hz and the A of 55 Hz in turns a sample
 unfoldable pub fresh_voice : ℕ → Float → Voice
-fresh_voice operators sampleRate =
-    voice_with operators sampleRate (decimal 1 0 ⊘ sampleRate) (decimal 55 0 ⊘ sampleRate)
+fresh_voice operators sample_rate =
+    voice_with operators sample_rate (decimal 1 0 ⊘ sample_rate) (decimal 55 0 ⊘ sample_rate)
 
 -- what a refused start hands back: a voice of no operators
 unfoldable pub no_voice : Voice
@@ -98,7 +98,7 @@ contents_of v = record { has = v.has_patch; patch = v.patch; row = v.row; plan =
 
 -- the same voice with these parts, dirty or clean, its switch on or off
 abbrev pub rebuilt : Voice → Moving → Tunings → Contents → Bool → Bool → Voice
-rebuilt v m t c isDirty on = record {
+rebuilt v m t c is_dirty on = record {
   operators = v.operators;
   sample_rate = v.sample_rate;
   one_hz = v.one_hz;
@@ -116,7 +116,7 @@ rebuilt v m t c isDirty on = record {
   patch = c.patch;
   row = c.row;
   plan = c.plan;
-  dirty = isDirty;
+  dirty = is_dirty;
   transposing = on;
 }
 

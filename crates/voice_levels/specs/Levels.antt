@@ -35,14 +35,14 @@ use Rattle.voice_levels.specs.declared.Levels.{Levels}
 -- how envelopes run in a block of so many samples: the envelope control sets two scales, and the sample that a
 -- sustained voice is scrubbed to
 unfoldable pub timing_for : Bool → Bool → Float → Float → ℕ → Timing
-timing_for sustain gate sampleRate control samples = record {
+timing_for sustain gate sample_rate control samples = record {
   sustain = sustain;
   gate = gate;
   envelope_rate = as_float samples;
   ad_scale = pow2_fast ((decimal 5 1 ⊖ control) ⊗ decimal 8 0) (pos 1);
   release_scale = pow2_fast (neg (magnitude (control ⊖ decimal 3 1)) ⊗ decimal 8 0) (pos 1);
-  gate_duration = decimal 15 1 ⊗ sampleRate;
-  envelope_sample = decimal 15 1 ⊗ sampleRate ⊗ control;
+  gate_duration = decimal 15 1 ⊗ sample_rate;
+  envelope_sample = decimal 15 1 ⊗ sample_rate ⊗ control;
 }
 
 -- an envelope's block: sustained, it is scrubbed and stays where it is; else it goes on by a rate
@@ -61,13 +61,13 @@ taken e p = record { envelope = moved_to e p.stage p.phase p.start; value = p.va
 
 -- the note's frequency in turns a sample, with the pitch modulation in octaves; `high` and `low` are the ratio's tables
 unfoldable pub note_frequency : List Float → List Float → Float → Float → Float → Float
-note_frequency high low a0 note pitchMod =
-    a0 ⊗ decimal 25 2 ⊗ ratio_of high low (note ⊖ decimal 9 0 ⊕ pitchMod ⊗ decimal 12 0)
+note_frequency high low a0 note pitch_mod =
+    a0 ⊗ decimal 25 2 ⊗ ratio_of high low (note ⊖ decimal 9 0 ⊕ pitch_mod ⊗ decimal 12 0)
 
 -- an operator's frequency in turns a sample: its ratio to the note's, or to 1 Hz
 unfoldable pub frequency_by : Float → Float → Ratio → Float
-frequency_by f0 oneHz (Note r) = r ⊗ f0
-frequency_by f0 oneHz (Hertz r) = r ⊗ oneHz
+frequency_by f0 one_hz (Note r) = r ⊗ f0
+frequency_by f0 one_hz (Hertz r) = r ⊗ one_hz
 
 abbrev pub frequency_of : Scene → Tuned → Float
 frequency_of g t = frequency_by g.f0 g.one_hz t.ratio
@@ -92,13 +92,13 @@ scaling_of g o headroom opcode =
 
 -- what the amplitude modulation leaves of a level
 abbrev pub level_mod_of : Float → Float
-level_mod_of logLevelMod = decimal 1 0 ⊖ pow2_fast (decimal 64 1 ⊗ logLevelMod) (pos 2)
+level_mod_of log_level_mod = decimal 1 0 ⊖ pow2_fast (decimal 64 1 ⊗ log_level_mod) (pos 2)
 
 -- the amplitude of a level, with the amplitude modulation by an operator's sensitivity
 unfoldable pub amplitude_of : Float → ℕ → Float → Float
-amplitude_of ampMod sensitivity level =
-    let logLevelMod = amp_mod_sensitivity_of sensitivity ⊗ ampMod ⊖ decimal 1 0 in
-    pow2_fast (minus_decimal 14 0 ⊕ level ⊗ level_mod_of logLevelMod) (pos 2)
+amplitude_of amp_mod sensitivity level =
+    let log_level_mod = amp_mod_sensitivity_of sensitivity ⊗ amp_mod ⊖ decimal 1 0 in
+    pow2_fast (minus_decimal 14 0 ⊕ level ⊗ level_mod_of log_level_mod) (pos 2)
 
 -- ---- operators
 

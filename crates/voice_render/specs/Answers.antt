@@ -36,7 +36,7 @@ parameters_fit_for v p = parameters_fit p && note_fits (played_by v p).note
 -- ---- the answers
 
 abbrev pub readied : ℕ → Bool → Voice → Readied
-readied number wasDirty v = record { number = number; was_dirty = wasDirty; voice = v }
+readied number was_dirty v = record { number = number; was_dirty = was_dirty; voice = v }
 
 -- 9 only; a dirty voice is set up, and a clean one stays as it is
 unfoldable pub setup_answer : List Float → List Float → Voice → Readied
