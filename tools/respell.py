@@ -1,5 +1,6 @@
 #!/usr/bin/env python3
-"""respell.py [FOLDER]: turns the names of definitions and lemmas below FOLDER (default: this repository) by the table respell.tsv.
+"""respell.py [FOLDER [TABLE]]: turns the names of definitions and lemmas below FOLDER (default: this repository) by the table
+respell.tsv, or by another one in this folder: arguments.tsv has arguments and names of modules, for a second run.
 
 Each row is an old name, a tab, a new name. A name turns where it stands as a whole word: in .antt files, in .rt files but for
 string literals, in the lines of must-fail edits, and between backticks in .md files. A row whose old name is plain snake case
@@ -13,7 +14,8 @@ import sys
 
 HERE = os.path.dirname(os.path.realpath(__file__))
 ROOT = sys.argv[1] if len(sys.argv) > 1 else os.path.dirname(HERE)
-with open(os.path.join(HERE, "respell.tsv"), encoding="utf-8") as f:
+TABLE = sys.argv[2] if len(sys.argv) > 2 else "respell.tsv"
+with open(os.path.join(HERE, TABLE), encoding="utf-8") as f:
     ROWS = dict(line.rstrip("\n").split("\t") for line in f if line.strip())
 WORD = re.compile(r"[^\s(){}\[\].;,:@\"«»`←|]+(?::(?=[^\s])[^\s(){}.;,@\"«»`]+)?")
 STRING = re.compile(r'"(?:[^"\\\n]|\\.)*"')
