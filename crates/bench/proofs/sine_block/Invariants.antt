@@ -1,4 +1,3 @@
-use borrow.Author.Rules.{rules}
 use Rattle.std.proofs.Common.{length, ◌≡◌, ◌-◌, ◌≤◌}
 use Rattle.bench.proofs.sine_block.Given as goal
 
