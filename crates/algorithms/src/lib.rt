@@ -447,7 +447,8 @@ fn is_tabled(operators: usize, table: &[u8], row: usize) -> bool
         return false;
     }
     let rows = table.len() / operators;
-    if 32 < rows {
+    let too_many = 32 < rows;
+    if too_many {
         return false;
     }
     row < rows

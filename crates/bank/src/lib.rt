@@ -28,7 +28,8 @@ pub fn validate(dump: &[u8]) -> u8
 pub fn number(dump: &[u8], slot: usize) -> u8
     ensures { result ≡ number_of dump.now slot }
 {
-    if slot > 31 {
+    let beyond = slot > 31;
+    if beyond {
         return 2;
     }
     validate(dump)

@@ -109,7 +109,8 @@ fn summed_with(sum: u8, patch: &[u8]) -> u8
 {
     let t = dump::tally(patch);
     let low = (sum % 128 + t.sum) % 128;
-    if sum > 127 {
+    let came_high = sum > 127;
+    if came_high {
         return 128 + low;
     }
     if t.largest > 127 {
@@ -318,7 +319,8 @@ pub fn take(receiver: Receiver, piece: &[u8], patch: &mut [u8; 128]) -> Taken
 fn closing_number(r: Receiver) -> u8
     ensures { result ≡ closing r }
 {
-    if r.count != 4104 {
+    let is_short = r.count != 4104;
+    if is_short {
         return 10;
     }
     if r.frame > 15 {

@@ -144,7 +144,8 @@ pub fn number(dump: &[u8], form: Form) -> u8
     let end = 6 + form.count;
     let t = tally(&dump[6..end]);
     let c = dump[end];
-    if t.largest > 127 {
+    let has_high = t.largest > 127;
+    if has_high {
         return 12;
     }
     if c > 127 {

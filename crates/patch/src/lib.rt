@@ -289,7 +289,8 @@ fn unpack_whole(s: &[u8]) -> Patch
 pub fn unpack(patch: Patch, data: &[u8]) -> Unpacked
     ensures { result ≡ unpack_of patch «data».now }
 {
-    if data.len() < SYX_SIZE {
+    let is_short = data.len() < SYX_SIZE;
+    if is_short {
         return Unpacked { number: 1, patch };
     }
     let read = unpack_whole(data);

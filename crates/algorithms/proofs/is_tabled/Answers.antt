@@ -21,12 +21,12 @@ returns-then-table-operators-ne0 c =
 pub nonzero_div-rows : goal.nonzero_div-rows
 nonzero_div-rows c = counted_some _ (sym c.is_counted.ensures ∙ c.if-not-is_counted.false)
 
-pub returns-then-rows-gt32 : goal.returns-then-rows-gt32
-returns-then-rows-gt32 c =
+pub returns-then-too_many : goal.returns-then-too_many
+returns-then-too_many c =
     long_table _ _ _ (sym c.is_counted.ensures ∙ c.if-not-is_counted.false) c.if-table-eq0.false
-    c.if-table-operators-ne0.false c.if-rows-gt32.true
+    c.if-table-operators-ne0.false c.if-too_many.true
 
 pub returns : goal.returns
 returns c =
     row_test _ _ _ (sym c.is_counted.ensures ∙ c.if-not-is_counted.false) c.if-table-eq0.false
-    c.if-table-operators-ne0.false c.if-rows-gt32.false
+    c.if-table-operators-ne0.false c.if-too_many.false

@@ -3,11 +3,11 @@ use borrow.Author.Tests.{lt-leb, le-leb}
 use Rattle.bank.specs.Bank.{number_of}
 use Rattle.bank.proofs.number.Goals as goal
 
-pub returns-then-slot-gt31 : goal.returns-then-slot-gt31
+pub returns-then-beyond : goal.returns-then-beyond
 unfolding number_of
-returns-then-slot-gt31 c = rw (lt-leb c.args.slot 31 c.if-slot-gt31.true)
+returns-then-beyond c = rw (lt-leb c.args.slot 31 c.if-beyond.true)
 
 pub returns : goal.returns
 unfolding number_of
 returns c =
-    rw (le-leb c.args.slot 31 c.if-slot-gt31.false, c.validate.ensures)
+    rw (le-leb c.args.slot 31 c.if-beyond.false, c.validate.ensures)

@@ -3,24 +3,24 @@ use borrow.Author.Tests.{eq-eqb, ne_eqb, le-leb, lt-leb}
 use Rattle.bank_pieces.specs.Pieces.{closing}
 use Rattle.bank_pieces.proofs.closing_number.Goals as goal
 
-pub returns-then-r-ne4104 : goal.returns-then-r-ne4104
+pub returns-then-is_short : goal.returns-then-is_short
 unfolding closing
-returns-then-r-ne4104 c = simp (ne_eqb _ _ c.if-r-ne4104.true)
+returns-then-is_short c = simp (ne_eqb _ _ c.if-is_short.true)
 
 pub returns-then-r-gt15 : goal.returns-then-r-gt15
 unfolding closing
-returns-then-r-gt15 c = simp (eq-eqb _ _ c.if-r-ne4104.false, lt-leb _ _ c.if-r-gt15.true)
+returns-then-r-gt15 c = simp (eq-eqb _ _ c.if-is_short.false, lt-leb _ _ c.if-r-gt15.true)
 
 pub returns-then-r-gt127 : goal.returns-then-r-gt127
 unfolding closing
 returns-then-r-gt127 c =
-    simp (eq-eqb _ _ c.if-r-ne4104.false, le-leb _ _ c.if-r-gt15.false, lt-leb _ _ c.if-r-gt127.true)
+    simp (eq-eqb _ _ c.if-is_short.false, le-leb _ _ c.if-r-gt15.false, lt-leb _ _ c.if-r-gt127.true)
 
 pub returns-then-r-ne0 : goal.returns-then-r-ne0
 unfolding closing
 returns-then-r-ne0 c =
     simp (
-      eq-eqb _ _ c.if-r-ne4104.false,
+      eq-eqb _ _ c.if-is_short.false,
       le-leb _ _ c.if-r-gt15.false,
       le-leb _ _ c.if-r-gt127.false,
       ne_eqb _ _ c.if-r-ne0.true,
@@ -30,7 +30,7 @@ pub returns : goal.returns
 unfolding closing
 returns c =
     simp (
-      eq-eqb _ _ c.if-r-ne4104.false,
+      eq-eqb _ _ c.if-is_short.false,
       le-leb _ _ c.if-r-gt15.false,
       le-leb _ _ c.if-r-gt127.false,
       eq-eqb _ _ c.if-r-ne0.false,

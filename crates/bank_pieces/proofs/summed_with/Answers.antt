@@ -21,14 +21,14 @@ module _ (sum : ℕ) (patch : List ℕ) (s m : ℕ) (e : s ≡ total patch % 128
   unfolding summed_with
   low l h = rw (le-leb sum 127 l, le-leb (largest_of patch) 127 (omega arith)) (omega arith)
 
-pub returns-then-sum-gt127 : goal.returns-then-sum-gt127
-returns-then-sum-gt127 c =
-    high_before _ _ _ _ c.tally-t.ensures.0 c.tally-t.ensures.1 c.if-sum-gt127.true
+pub returns-then-came_high : goal.returns-then-came_high
+returns-then-came_high c =
+    high_before _ _ _ _ c.tally-t.ensures.0 c.tally-t.ensures.1 c.if-came_high.true
 
 pub returns-then-t-gt127 : goal.returns-then-t-gt127
 returns-then-t-gt127 c =
-    high_now _ _ _ _ c.tally-t.ensures.0 c.tally-t.ensures.1 c.if-sum-gt127.false c.if-t-gt127.true
+    high_now _ _ _ _ c.tally-t.ensures.0 c.tally-t.ensures.1 c.if-came_high.false c.if-t-gt127.true
 
 pub returns : goal.returns
 returns c =
-    low _ _ _ _ c.tally-t.ensures.0 c.tally-t.ensures.1 c.if-sum-gt127.false c.if-t-gt127.false
+    low _ _ _ _ c.tally-t.ensures.0 c.tally-t.ensures.1 c.if-came_high.false c.if-t-gt127.false

@@ -39,8 +39,8 @@ returns-then-not-framed_right c =
     (long c.args.form (omega arith) c.args.dump.now c.if-dump-form.false c.if-dump-lt8.false)
     (sym c.framed_right.ensures ∙ c.if-not-framed_right.true)
 
-pub returns-then-t-gt127 : goal.returns-then-t-gt127
-returns-then-t-gt127 c =
+pub returns-then-has_high : goal.returns-then-has_high
+returns-then-has_high c =
     let six : length c.args.form.header ≡ 6 = omega arith in
     let dump = c.args.dump.now in
     let largest = largest_is c.args.form six dump c.tally-t.result.largest c.tally-t.ensures.1 in
