@@ -1,9 +1,10 @@
 -- Tests of the code, in the definitions' words. Assumes nothing.
 use mathlib.Core.Path.{◌≡◌, refl, sym, ◌∙◌}
-use mathlib.Core.Bool.{Bool, true, false}
+use mathlib.Core.Bool.{Bool, true, false, not}
 use mathlib.Core.List.{List, [], ◌∷◌}
 use Prim.Native.Nat.{ℕ}
 use native.Mathlib.Omega.{arith}
+use borrow.Author.Tests.{not-true, not-false}
 use lib.Dec.{leb}
 use lib.ListN.{length}
 use mathlib.Core.Bool.{◌&&◌, and_assoc, and-true}
@@ -13,13 +14,19 @@ use Rattle.patch.specs.declared.Patch.{Patch}
 use Rattle.patch.specs.Packed.{patch_fits, check_of}
 use Rattle.voice_setup.specs.Setup.{envelope_at}
 
--- a refusal's test s, as a call gives it in u
+-- a refusal's test s, as a call gives it in u, by the test of a field or by what a branch on `!f(x)` says of f's result
 module _ {u s : Bool} (e : u ≡ s) where
-  pub refused : u ≡ false → s ≡ false
-  refused h = sym e ∙ h
+  pub refused : not u ≡ true → s ≡ false
+  refused h = sym e ∙ not-true u h
 
-  pub accepted : u ≡ true → s ≡ true
-  accepted h = sym e ∙ h
+  pub accepted : not u ≡ false → s ≡ true
+  accepted h = sym e ∙ not-false u h
+
+  pub refused_by : u ≡ false → s ≡ false
+  refused_by h = sym e ∙ h
+
+  pub accepted_by : u ≡ true → s ≡ true
+  accepted_by h = sym e ∙ h
 
 -- a patch's check as a number
 module _ (p : Patch) {n : ℕ} (e : n ≡ check_of p) where
