@@ -1,11 +1,11 @@
 #!/usr/bin/env python3
-"""respell.py [FOLDER [TABLE]]: turns the names of definitions and lemmas below FOLDER (default: this repository) by the table
-respell.tsv, or by another one in this folder: arguments.tsv has arguments and names of modules, for a second run.
+"""respell.py [FOLDER [TABLE]]: turns the names of definitions and lemmas below FOLDER (default: this repository).
 
-Each row is an old name, a tab, a new name. A name turns where it stands as a whole word: in .antt files, in .rt files but for
-string literals, in the lines of must-fail edits, and between backticks in .md files. A row whose old name is plain snake case
-may also be a Rust name, so it turns in .antt files alone; and a name behind or before a dot is a part of a path, which a row
-that ends in _lem leaves as it is.
+The table is respell.tsv, or another one in this folder: arguments.tsv has arguments and names of modules, for a second
+run. Each row is an old name, a tab, a new name. A name turns where it stands as a whole word: in .antt files, in .rt
+files but for string literals, in the lines of must-fail edits, and between backticks in .md files. A row whose old name
+is plain snake case may also be a Rust name, so it turns in .antt files alone; and a name behind or before a dot is a
+part of a path, which a row that ends in _lem leaves as it is. The first run is for text that it has not turned yet.
 """
 
 import os
