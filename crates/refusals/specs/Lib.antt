@@ -1,3 +1,4 @@
 -- the definitions that the contracts cite
 pub mod Refusals
 pub mod Table
+pub mod Answer

@@ -1,11 +1,114 @@
-// The text of a refusal, by its number, as bytes at the start of a lent buffer: `refused 13: wrong checksum`. Added
-// by us: no Rust file. It promises the definition's text for every number, and that what stood behind it stays.
+// Refusals: why an entry gives no answer, its number and its words. Added by us: no Rust file. An entry that is given a
+// state hands it back in a refusal. `text` writes a number's words, `refused 13: wrong checksum`, as bytes at the start
+// of a lent buffer: it promises the definition's text for every number, and that what stood behind it stays.
 #![tactic(auto)]
 
 ghost use Rattle.std.specs.Prelude.{◌≡◌, ◌+◌, ◌≤◌, length};
-ghost use Rattle.refusals.specs.Refusals.{Begins, decimal, refusal};
+ghost use Rattle.refusals.specs.Answer.{number_of, place_of};
+ghost use Rattle.refusals.specs.Refusals.{Begins, decimal, letters, refusal, words_of};
 ghost use Rattle.refusals.specs.Refusals.{digit as Refusals·digit};
 ghost use Rattle.refusals.specs.Table.{Put, row, sentence};
+
+use std::error::Error;
+use std::fmt;
+
+// Why an entry gives no answer. 3 and 4 name the operator at which a row cannot go on.
+#[derive(Clone, Copy, Debug, PartialEq, Eq, Hash)]
+pub enum Refusal {
+    ShortPatch,
+    WrongTable,
+    NoRenderer(u8),
+    UnsetBuffer(u8),
+    SampleRate,
+    Field,
+    Parameter,
+    BlockLength,
+    ForeignState,
+    WrongLength,
+    FrameByte,
+    HighByte,
+    Checksum,
+}
+
+impl Refusal {
+    // The number by which documents, scripts and hosts know it.
+    pub fn number(self) -> u8
+        ensures { result ≡ number_of self }
+    {
+        match self {
+            Refusal::ShortPatch => 1,
+            Refusal::WrongTable => 2,
+            Refusal::NoRenderer(_) => 3,
+            Refusal::UnsetBuffer(_) => 4,
+            Refusal::SampleRate => 5,
+            Refusal::Field => 6,
+            Refusal::Parameter => 7,
+            Refusal::BlockLength => 8,
+            Refusal::ForeignState => 9,
+            Refusal::WrongLength => 10,
+            Refusal::FrameByte => 11,
+            Refusal::HighByte => 12,
+            Refusal::Checksum => 13,
+        }
+    }
+
+    // The operator that 3 and 4 name; 0 with every other number.
+    pub fn place(self) -> u8
+        ensures { result ≡ place_of self }
+    {
+        match self {
+            Refusal::NoRenderer(at) | Refusal::UnsetBuffer(at) => at,
+            _ => 0,
+        }
+    }
+
+    // What it says.
+    pub fn words(self) -> &'static str
+        ensures { result.now ≡ letters (words_of (number_of self)) }
+    {
+        match self {
+            Refusal::ShortPatch => "patch shorter than 128 bytes",
+            Refusal::WrongTable => "wrong number of operators, table, row or slot",
+            Refusal::NoRenderer(_) => "a call has no renderer",
+            Refusal::UnsetBuffer(_) => "a call reads or adds to an unset buffer",
+            Refusal::SampleRate => "sample rate outside 8,000 to 192,000",
+            Refusal::Field => "a field above its largest number",
+            Refusal::Parameter => "a parameter outside its range",
+            Refusal::BlockLength => "block of a wrong length",
+            Refusal::ForeignState => "a state that no call has left",
+            Refusal::WrongLength => "wrong length",
+            Refusal::FrameByte => "wrong frame byte",
+            Refusal::HighByte => "data byte above 127",
+            Refusal::Checksum => "wrong checksum",
+        }
+    }
+}
+
+impl fmt::Display for Refusal {
+    fn fmt<W: fmt::Write>(&self, f: &mut fmt::Formatter<W>) -> fmt::Result {
+        let number = self.number();
+        let words = self.words();
+        write!(f, "refused {number}: {words}")
+    }
+}
+
+impl Error for Refusal {}
+
+// A refusal of an entry that was given a state, and that state as it came.
+#[derive(Clone, Copy, Debug)]
+pub struct Refused<T> {
+    pub refusal: Refusal,
+    pub state: T,
+}
+
+// For `?` where the state is let go.
+impl<T: Copy> From<Refused<T>> for Refusal {
+    ghost from_gives = { λ r e. e ≡ r.refusal };
+
+    fn from(r: Refused<T>) -> Refusal {
+        r.refusal
+    }
+}
 
 // The bytes that a text takes at most, with room to spare.
 pub const ROOM: usize = 64;
