@@ -11,11 +11,7 @@ pub fn put(out: &mut [u8], at: usize, b: &[u8])
     requires { at + length b.now ≤ length out.old }
     ensures { out.new ≡ paste out.old at b.now (length b.now) }
 {
-    let mut i = 0usize;
-    while i < b.len() {
-        out[at + i] = b[i];
-        i += 1;
-    }
+    out[at..at + b.len()].copy_from_slice(b);
 }
 
 // The number at a place.
@@ -23,7 +19,7 @@ pub fn read_number(s: &[u8], at: usize) -> u16
     requires { at + 2 ≤ length s.now }
     ensures { result ≡ number_at s.now at }
 {
-    (s[at] as u16) + (s[at + 1] as u16) * 256
+    u16::from_le_bytes([s[at], s[at + 1]])
 }
 
 // A number put at a place.
@@ -31,6 +27,5 @@ pub fn write_number(s: &mut [u8], at: usize, number: u16)
     requires { at + 2 ≤ length s.old }
     ensures { s.new ≡ with_number s.old at number }
 {
-    s[at] = (number % 256) as u8;
-    s[at + 1] = (number / 256) as u8;
+    s[at..at + 2].copy_from_slice(&number.to_le_bytes());
 }
