@@ -1,17 +1,18 @@
 -- What the casts return, by the form of the float. Assumes nothing.
 use Rattle.std.proofs.Common.{◌≡◌, ℕ, zero, suc, ◌+◌, ◌-◌, ◌*◌, ◌/◌, ◌%◌, ◌^◌, ◌<◌, ◌≤◌, min, Bool, true, false, not}
-use Rattle.std.proofs.Common.{◌&&◌, ◌||◌, T, eqb, ltb, leb, ℤ, pos, negsuc, neg_ℤ, sym, refl, ap, ◌∙◌, subst}
+use Rattle.std.proofs.Common.{◌&&◌, ◌||◌, T, eqb, ltb, leb, ℤ, pos, negsuc, neg_ℤ, sym, refl, subst}
 use Rattle.std.proofs.Common.{lt_of_lt_of_le, le_of_lt, lt_irrefl, mul-le-mul_right, mul_comm, div-lt_iff_lt-mul}
-use Rattle.std.proofs.Common.{mul-le-mul, one-mul, pow-suc, le-div_iff_mul-le, mul-one, arith, le→leb, eqb→eq, ltb→lt}
-use Rattle.std.proofs.Common.{lt→ltb, pow_pos, pow_mono, ltb-false, ltb-true, eq-eqb, eqb-true}
+use Rattle.std.proofs.Common.{mul-le-mul, one-mul, pow-suc, le-div_iff_mul-le, mul-one, arith, le→leb, ltb→lt}
+use Rattle.std.proofs.Common.{lt→ltb, pow_pos, pow_mono, ltb-false, eq-eqb}
 use mathlib.Core.Bool.{beq}
 use native.Mathlib.Nat.{div-le_of_le-mul}
 use native.Mathlib.Nat.{mod-one}
-use lib.Ieee.Fits.{up_pos, down_pos, and_l, and_r, and_i, eq→eqb, fits_widens}
-use lib.Ieee.{Float, nan, inf, fin, binary32, binary64, up, down, lt, le, eq, ne, neg, fits, to_unsigned, to_signed}
+use lib.Ieee.Fits.{down_pos, and_l, and_r, and_i, eq→eqb, fits_widens}
+use lib.Ieee.{Float, nan, inf, fin, binary32, binary64, up, down, lt, le, eq, ne, fits, to_unsigned, to_signed}
 use lib.Ieee.{in_unsigned, whole, is_nan}
+use Rattle.std.specs.Float.{float_with_sign}
 use Rattle.numbers.specs.Extremes.{magnitude}
-use Rattle.numbers.proofs.Views.{no, on, both, AtLeast, ge_inf, ge_fin, NotAtLeast, nge_nan, nge_inf, nge_neg}
+use Rattle.numbers.proofs.Views.{no, on, AtLeast, ge_inf, ge_fin, NotAtLeast, nge_nan, nge_inf, nge_neg}
 use Rattle.numbers.proofs.Views.{nge_fin, Under, lt_inf, lt_neg, lt_fin, NotUnder, nlt_nan, nlt_inf, nlt_fin}
 use Rattle.numbers.proofs.Views.{AtLeastNeg, gen_inf, gen_fin, gen_neg, NotAtLeastNeg, ngen_neg, NotAboveNeg}
 use Rattle.numbers.proofs.Views.{ngt_nan, ngt_inf, ngt_neg}
@@ -107,12 +108,6 @@ ne_self nan = refl
 ne_self (inf s) = simp beq_self
 ne_self (fin s m e) = simp (beq_self, eqb_self)
 
-pub only_nan : (x : Float) → is_nan x ≡ true → x ≡ nan
-unfolding is_nan
-only_nan nan h = refl
-only_nan (inf s) h = no h
-only_nan (fin s m e) h = no h
-
 -- ---- signed
 
 neg_min : (a b c : ℕ) → a ≤ b → a ≤ c → neg_ℤ (pos (min a b)) ≡ neg_ℤ (pos (min a c))
@@ -206,57 +201,8 @@ high_wider j k _ p (lt_fin m e g) =
 
 -- ---- the magnitude
 
-one_power : (k : ℕ) → 2 ^ k * 1 ≡ 1 → k ≡ 0
-one_power zero h = refl
-one_power (suc k) h = let p : 2 ^ suc k ≡ 2 ^ k * 2 = pow-suc 2 k in let q = pow_pos k in omega arith
-
-zero_fits : (s : Bool) (e : ℤ) → T (fits binary32 (fin s 0 e)) → e ≡ pos 0
-unfolding fits
-zero_fits s (pos k) f = ap pos (one_power k (eqb→eq (2 ^ k * 1) 1 f))
-zero_fits s (negsuc k) f =
-    let p : 2 ^ suc k ≡ 2 ^ k * 2 = pow-suc 2 k in
-    let q = pow_pos k in
-    let h = eqb→eq (1 * 2 ^ suc k) 1 f in
-    absurd (omega arith)
-
-none : (n : ℕ) (e : ℤ) → eqb (n * up e * 1) (0 * 1 * down e) ≡ true → n ≡ 0
-none zero e h = refl
-none (suc n) e h =
-    let z = eqb-true (suc n * up e * 1) (0 * 1 * down e) h in
-    let o : 1 ≤ suc n = omega arith in
-    let q = mul-le-mul o (up_pos e) in
-    omega arith
-
-pub abs_zero : (x : Float) → T (fits binary32 x) → eq x (fin false 0 (pos 0)) ≡ true → fin false 0 (pos 0) ≡ magnitude x
-unfolding eq magnitude
-abs_zero nan f h = no h
-abs_zero (inf s) f h = no h
-abs_zero (fin s m e) f h =
-    let z = none m e (both (eqb (m * up e * 1) (0 * 1 * down e)) (beq s false || eqb (m * up e * 1) 0) h).0 in
-    let g : T (fits binary32 (fin s 0 e)) = subst (λ (n : ℕ). T (fits binary32 (fin s n e))) z f in
-    let y = zero_fits s e g in
-    rw (z, y)
-
-pub abs_neg : (x : Float) → lt x (fin false 0 (pos 0)) ≡ true → neg x ≡ magnitude x
-unfolding lt neg magnitude
-abs_neg nan h = no h
-abs_neg (inf true) h = refl
-abs_neg (inf false) h = no h
-abs_neg (fin true m e) h = refl
-abs_neg (fin false m e) h = let z = ltb-true (m * up e * 1) (0 * 1 * down e) h in let q : ⊥ = omega arith in absurd q
-
-pub abs_else : (x : Float) → lt x (fin false 0 (pos 0)) ≡ false → eq x (fin false 0 (pos 0)) ≡ false → x ≡ magnitude x
-unfolding lt eq magnitude
-abs_else nan h k = refl
-abs_else (inf true) h k = on h
-abs_else (inf false) h k = refl
-abs_else (fin false m e) h k = refl
-abs_else (fin true zero e) h k = absurd (some (0 * up e * 1) (0 * 1 * down e) (omega arith) (omega arith) k)
-  where
-    some : (a b : ℕ) → a ≡ 0 → b ≡ 0 → (eqb a b && eqb a 0) ≡ false → ⊥
-    some a b p q g = on (sym (ap (λ (n : ℕ). eqb n b && eqb n 0) p ∙ ap (λ (n : ℕ). eqb 0 n && true) q) ∙ g)
-abs_else (fin true (suc m) e) h k =
-    let z = ltb-false 0 (suc m * up e * 1 + 0 * 1 * down e) h in
-    let o : 1 ≤ suc m = omega arith in
-    let q = mul-le-mul o (up_pos e) in
-    let y : ⊥ = omega arith in absurd y
+pub without_sign : (x : Float) → float_with_sign false x ≡ magnitude x
+unfolding float_with_sign magnitude
+without_sign nan = refl
+without_sign (inf s) = refl
+without_sign (fin s m e) = refl

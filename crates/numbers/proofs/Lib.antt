@@ -1,7 +1,6 @@
 pub mod Views
 pub mod Casts
 pub mod Signed
-pub mod Product
 pub mod Rounded
 pub mod Sizes
 pub mod Below

@@ -6,17 +6,18 @@ ghost use Rattle.std.specs.Prelude.{◌≡◌};
 ghost use Rattle.random.specs.Random.{next_number, draw};
 
 // A draw, and the generator's number after it.
-#[derive(Clone, Copy)]
+#[derive(Clone, Copy, Debug, PartialEq)]
 pub struct Drawn {
     pub state: u32,
     pub value: f32,
 }
 
 // The generator's next number.
+#[tactic(auto, unfolding(crate::specs::Random::next_number))]
 pub fn get_word(state: u32) -> u32
     ensures { result ≡ next_number state }
 {
-    numbers::wrapping_add_u32(numbers::wrapping_mul_u32(state, 1664525), 1013904223)
+    state.wrapping_mul(1664525).wrapping_add(1013904223)
 }
 
 // A draw from 0 to 1: the next number over 2^32. The number is rounded to f32 first, so a draw can be

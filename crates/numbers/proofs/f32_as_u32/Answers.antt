@@ -3,14 +3,8 @@ use Rattle.std.proofs.Common.{◌≡◌, T, sym, ◌∙◌, subst, arith}
 use lib.Ieee.{of_bits, neg, to_unsigned}
 use lib.Ieee.Casts.{to_unsigned-lt}
 use Rattle.numbers.proofs.Views.{at_least, not_at_least, under, not_under, not_above_neg}
-use Rattle.numbers.proofs.Casts.{fast_in, at_least_no_nan, widens, too_large, narrows, negative, small_enough}
+use Rattle.numbers.proofs.Casts.{fast_in, at_least_no_nan, too_large, narrows, negative, small_enough}
 use Rattle.numbers.proofs.f32_as_u32.Goals as goal
-
-pub float_to_float-result : goal.float_to_float-result
-unfolding of_bits
-float_to_float-result c =
-    let x = c.args.x in
-    widens x c.type_inv.x (at_least_no_nan 23 x (at_least 23 x c.if-x.true))
 
 pub float_to_int-result : goal.float_to_int-result
 unfolding of_bits
