@@ -9,6 +9,7 @@ ghost use Rattle.std.specs.Float.Ieee.{to_unsigned, of_int};
 ghost use Rattle.utils.specs.Interpolate.{line_at, interpolated, interpolated_wrap};
 
 // The entry at `index`, from 0 to 1, of `size` places.
+#[tactic(auto, unfolding(crate::specs::Interpolate::interpolated))]
 pub fn interpolate(table: &[f32], index: f32, size: f32) -> f32
     ensures { result ≡ interpolated table.now index size }
 {
@@ -27,18 +28,11 @@ pub fn interpolate_wrap(table: &[f32], index: f32, size: f32) -> f32
 fn line(table: &[f32], place: f32) -> f32
     ensures { result ≡ line_at table.now place }
 {
-    if table.len() == 0 {
-        return 0.0 / 0.0;
-    }
-    let last = table.len() - 1;
     let integral = numbers::f32_as_usize(place);
-    if integral >= last {
-        return table[last];
+    match table.get(integral..) {
+        Some([a, b, ..]) => *a + (*b - *a) * (place - whole_part(place, integral)),
+        _ => table.last().copied().unwrap_or(f32::NAN),
     }
-    let fractional = place - whole_part(place, integral);
-    let a = table[integral];
-    let b = table[integral + 1];
-    a + (b - a) * fractional
 }
 
 // A place's whole part as f32: from 2^24 on every f32 is whole, so it is the place itself.
