@@ -1,4 +1,4 @@
--- The loops of the ratio: each takes one turn at most, and what they hand on is from -120 to 120. Assumes nothing.
+-- The turns of the ratio's definition: at most one is taken, and what they hand on is from -120 to 120. Assumes nothing.
 use mathlib.Core.Path.{◌≡◌, refl, sym, subst}
 use mathlib.Core.Bool.{Bool, true, false, ◌&&◌, cond}
 use mathlib.Core.List.{List}
@@ -12,7 +12,7 @@ use lib.Pow.{pow_pos}
 use lib.Ieee.Bits.{is_true}
 use lib.Ieee.Order.{round_mono}
 use lib.Ieee.Fits.{down_pos, and_i, and_l, and_r}
-use lib.Ieee.{Float, nan, inf, fin, binary32, up, down, lt, le, eq, neg, add, sub, sum, round}
+use lib.Ieee.{Float, nan, inf, fin, binary32, up, down, lt, le, eq, neg, add, sub, mul, div, sum, round}
 use Rattle.numbers.proofs.Views.{no, or_le, or_ge}
 use Rattle.numbers.proofs.Casts.{or_i, le_or, ge_or}
 use Rattle.numbers.proofs.Rounded.{Plus, p_inf, p_fin, round_plus, round_neg, Upto, upto, upto_at}
@@ -150,16 +150,16 @@ between_within : (x : Float) → T (within 240 x) → lt (decimal 120 0) x ≡ f
 unfolding decimal minus_decimal
 between_within x h g l = let p = between x (at_least 240 x h) (at_most 240 x h) g l in is_within 120 x p.0 p.1
 
--- neither loop takes a second turn
-pub lowered_once : (x : Float) → T (within 240 x) → lt (decimal 120 0) x ≡ true
+-- what was lowered is neither above 120 nor below -120, so it is not raised
+lowered_once : (x : Float) → T (within 240 x) → lt (decimal 120 0) x ≡ true
     → lt (decimal 120 0) (x ⊖ decimal 120 0) ≡ false
 lowered_once x h g = le_not_lt _ _ (at_most 120 _ (less_within x h g))
 
-pub raised_once : (x : Float) → T (within 240 x) → lt x (minus_decimal 120 0) ≡ true
-    → lt (x ⊕ decimal 120 0) (minus_decimal 120 0) ≡ false
-raised_once x h g = le_not_lt _ _ (at_least 120 _ (more_within x h g))
+pub not_raised : (x : Float) → T (within 240 x) → lt (decimal 120 0) x ≡ true
+    → lt (x ⊖ decimal 120 0) (minus_decimal 120 0) ≡ false
+not_raised x h g = le_not_lt _ _ (at_least 120 _ (less_within x h g))
 
--- ---- what the loops hand on
+-- ---- what the turns hand on
 
 wide : (x : Float) → Sized 120 x → T (le (fin true 15 (pos 4)) x) × T (le x (fin false 15 (pos 4)))
 unfolding le lt eq neg
@@ -207,33 +207,32 @@ lowered_below x h = go (lt (decimal 120 0) x) refl
 pub handed_on : (x : Float) → T (within 240 x) → T (within 120 (raised (lowered x)).semitones)
 handed_on x h = raised_within (lowered x) (lowered_within x h) (lowered_below x h)
 
--- ---- the two loops' tests and turns
+-- ---- the three ways through both turns
 
-abbrev pub above : Float → Bool
-above s = lt (decimal 120 0) s
+module _ (x : Float) where
+  pub lessened : T (within 240 x) → lt (decimal 120 0) x ≡ true
+      → ◌≡◌ {A = Shifted} (record { semitones = x ⊖ decimal 120 0; scale = decimal 1024 0 }) (raised (lowered x))
+  unfolding raised lowered decimal minus_decimal mul round
+  lessened h g = simp (g, not_raised x h g)
 
-abbrev pub down120 : Float → Float
-down120 s = s ⊖ decimal 120 0
+  module _ (not_above : lt (decimal 120 0) x ≡ false) where
+    pub raised_up : lt x (minus_decimal 120 0) ≡ true
+        → ◌≡◌ {A = Shifted} (record { semitones = x ⊕ decimal 120 0; scale = decimal 1 0 ⊘ decimal 1024 0 }) (raised (lowered x))
+    unfolding raised lowered decimal minus_decimal mul div round
+    raised_up g = simp (not_above, g)
 
-abbrev pub times1024 : Float → Float
-times1024 s = s ⊗ decimal 1024 0
-
-abbrev pub below : Float → Bool
-below s = lt s (minus_decimal 120 0)
-
-abbrev pub up120 : Float → Float
-up120 s = s ⊕ decimal 120 0
-
-abbrev pub over1024 : Float → Float
-over1024 s = s ⊗ (decimal 1 0 ⊘ decimal 1024 0)
+    pub as_it_is : lt x (minus_decimal 120 0) ≡ false
+        → ◌≡◌ {A = Shifted} (record { semitones = x; scale = decimal 1 0 }) (raised (lowered x))
+    unfolding raised lowered
+    as_it_is g = simp (not_above, g)
 
 -- ---- the whole ratio, from what its calls ensure
 
-pub inside : (high low : List Float) (s : Float) {x y : Shifted} {q : Float} → T (within 240 s) → x ≡ lowered s
-    → y ≡ raised x → q ≡ ratio_in high low y.semitones
+pub inside : (high low : List Float) (s : Float) {y : Shifted} {q : Float} → T (within 240 s) → y ≡ raised (lowered s)
+    → q ≡ ratio_in high low y.semitones
     → y.scale ⊗ q ≡ ratio_of high low s
 unfolding ratio_of
-inside high low s h ex ey eq = simp (is_true (within 240 s) h, eq, ey, ex)
+inside high low s h ey eq = simp (is_true (within 240 s) h, eq, ey)
 
 pub outside : (high low : List Float) (s : Float) → le (minus_decimal 240 0) s ≡ true → le s (decimal 240 0) ≡ false
     → decimal 1 0 ≡ ratio_of high low s

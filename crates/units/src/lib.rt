@@ -46,11 +46,9 @@ fn semitones_to_ratio(high: &[f32; 256], low: &[f32; 256], semitones: f32) -> f3
 pub fn semitones_to_ratio_lent(high: &[f32; 256], low: &[f32; 256], semitones: f32) -> f32
     ensures { result ≡ ratio_of high.now low.now semitones }
 {
-    if semitones >= -240.0 {
-        if semitones <= 240.0 {
-            let near = raise(lower(semitones));
-            return near.scale * semitones_to_ratio(high, low, near.semitones);
-        }
+    if semitones >= -240.0 && semitones <= 240.0 {
+        let near = folded(semitones);
+        return near.scale * semitones_to_ratio(high, low, near.semitones);
     }
     1.0
 }
@@ -59,41 +57,28 @@ pub fn semitones_to_ratio_lent(high: &[f32; 256], low: &[f32; 256], semitones: f
 pub fn semitones_to_ratio_safe(semitones: f32) -> f32
     ensures { result ≡ ratio_of lut_pitch_ratio_high lut_pitch_ratio_low semitones }
 {
-    let high = lut_pitch_ratio_high();
-    let low = lut_pitch_ratio_low();
-    semitones_to_ratio_lent(&high, &low, semitones)
+    semitones_to_ratio_lent(&lut_pitch_ratio_high(), &lut_pitch_ratio_low(), semitones)
 }
 
-// Down by ten octaves while above ten. Up to 240 semitones that is one turn at most.
-fn lower(semitones: f32) -> Shifted
+// Down by ten octaves above ten, up by ten below minus ten: up to 240 semitones the Rust's loops take one turn at most.
+fn folded(semitones: f32) -> Shifted
     requires { T (within 240 semitones) }
-    ensures { result ≡ lowered semitones }
+    ensures { result ≡ raised (lowered semitones) }
 {
-    let mut s = semitones;
-    let mut scale = 1.0;
-    while s > 120.0 {
-        s -= 120.0;
-        scale *= 1024.0;
+    if semitones > 120.0 {
+        return Shifted {
+            semitones: semitones - 120.0,
+            scale: 1024.0,
+        };
+    }
+    if semitones < -120.0 {
+        return Shifted {
+            semitones: semitones + 120.0,
+            scale: 1.0 / 1024.0,
+        };
     }
     Shifted {
-        semitones: s,
-        scale,
-    }
-}
-
-// Up by ten octaves while below minus ten.
-fn raise(x: Shifted) -> Shifted
-    requires { T (within 240 x.semitones) }
-    ensures { result ≡ raised x }
-{
-    let mut s = x.semitones;
-    let mut scale = x.scale;
-    while s < -120.0 {
-        s += 120.0;
-        scale *= 1.0 / 1024.0;
-    }
-    Shifted {
-        semitones: s,
-        scale,
+        semitones,
+        scale: 1.0,
     }
 }
