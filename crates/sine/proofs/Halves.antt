@@ -1,7 +1,7 @@
 -- A modulation from -31 to 30 turns, lifted by 32: times 2 ^ 25 it is a whole number below 2 ^ 31, half of what it is
 -- times 2 ^ 26. Assumes nothing.
 use mathlib.Core.Path.{◌≡◌, refl, sym, ap, ◌∙◌, subst}
-use mathlib.Core.Bool.{true, false, ◌&&◌}
+use mathlib.Core.Bool.{true, false}
 use Prim.Native.Nat.{ℕ, ◌*◌, ◌^◌, ◌<◌, ◌≤◌}
 use native.Mathlib.Nat.{mul-le-mul_left, mul_assoc}
 use native.Mathlib.Omega.{arith}
@@ -21,6 +21,7 @@ use mir.ValLaws.{to_z_pos}
 use Rattle.numbers.specs.F32.{◌⊕◌, ◌⊗◌}
 use Rattle.numbers.proofs.Views.{AtLeast, ge_inf, ge_fin, at_least, Under, lt_fin}
 use Rattle.numbers.proofs.Casts.{no_fraction, digits_lt}
+use Rattle.sine.specs.Sine.{near_by}
 use Rattle.sine.proofs.Near.{lift, per_turn, lowest, highest, Within, at_most, fewer, near_within, within_whole}
 use Rattle.sine.proofs.Near.{within_below}
 use Rattle.sine.proofs.Turns.{value_no_nan, value_signed, value_in, value_cast, raised, at_least_one}
@@ -93,7 +94,7 @@ pub record Halved (x : Float) (steps : ℕ) : Type 0 where
   pub small : halves < 2 ^ 31
   pub twice : steps ≡ halves * 2
 
-pub near_halved : (pm : Float) → (le (fin true 31 (pos 0)) pm && le pm (fin false 15 (pos 1))) ≡ true
+pub near_halved : (pm : Float) → near_by pm ≡ true
     → Halved ((pm ⊕ lift) ⊗ half) (to_unsigned 32 ((pm ⊕ lift) ⊗ per_turn))
 near_halved pm h = go (pm ⊕ lift) (near_within pm h)
   where

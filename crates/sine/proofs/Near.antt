@@ -1,23 +1,22 @@
 -- A modulation lifted by 32 and times 2 ^ 26, by where the modulation lies: from -31 to 30 the product is a whole
--- number below 2 ^ 32, and where the lifted one is 64 or more it is 2 ^ 32 at least. Sums and products grow with what
--- they are made of, rounded too. Assumes nothing.
+-- number below 2 ^ 32. Sums and products grow with what they are made of, rounded too. Assumes nothing.
 use mathlib.Core.Path.{◌≡◌, sym, subst}
-use mathlib.Core.Bool.{Bool, true, false, ◌&&◌, cond}
+use mathlib.Core.Bool.{Bool, true, false, cond}
 use Prim.Native.Nat.{ℕ, ◌+◌, ◌*◌, ◌-◌, ◌^◌, ◌<◌, ◌≤◌}
 use native.Mathlib.Nat.{le_trans, suc-mul, mul-le-mul_right}
 use native.Mathlib.Omega.{arith}
 use borrow.Author.Tests.{lt-ltb}
-use lib.Dec.{T, ltb, lt→ltb}
+use lib.Dec.{T, ltb}
 use lib.IntN.{pos}
-use lib.Ieee.{Float, nan, inf, fin, binary32, up, down, lt, le, eq, add, sum, mul, round, to_unsigned}
+use lib.Ieee.{Float, nan, inf, fin, binary32, up, down, lt, le, eq, add, sum, mul, round}
 use lib.Ieee.Bits.{is_true}
 use lib.Ieee.Fits.{down_pos}
 use lib.Ieee.Order.{round_mono}
-use lib.Ieee.Positive.{positive, between, first_pos, mul_mono}
-use Rattle.numbers.specs.F32.{◌⊕◌, ◌⊗◌}
+use lib.Ieee.Positive.{between, mul_mono}
+use Rattle.numbers.specs.F32.{◌⊕◌, ◌⊗◌, decimal, minus_decimal}
+use Rattle.sine.specs.Sine.{near_by}
 use Rattle.numbers.proofs.Views.{no, both, or_le, or_ge, AtLeast, ge_inf, ge_fin, at_least, Under, lt_inf, lt_neg}
-use Rattle.numbers.proofs.Views.{lt_fin, nlt_inf, nlt_fin}
-use Rattle.numbers.proofs.Casts.{too_large, at_least_no_nan}
+use Rattle.numbers.proofs.Views.{lt_fin}
 
 -- the lift, the steps of a turn, and the ends of the lifted modulation
 abbrev pub lift : Float
@@ -91,25 +90,10 @@ pub within_below : (l : Float) → Within l → Under 32 (l ⊗ per_turn)
 unfolding Within mul round
 within_below l (h, k) = at_most 27 32 (omega arith) (l ⊗ per_turn) (is_true (le (l ⊗ per_turn) (fin false 31 (pos 27))) (mul_mono binary32 l highest per_turn per_turn (between lowest l highest tt tt h k) tt tt tt k same_per_turn))
 
--- from 64 on the cast gives the largest number
-all : (x : Float) → AtLeast 32 x → to_unsigned 32 x ≡ 2 ^ 32 - 1
-all _ ge_inf = too_large 32 (inf false) nlt_inf (at_least_no_nan 32 (inf false) ge_inf)
-all _ (ge_fin m e g) = too_large 32 (fin false m e) (nlt_fin m e g) (at_least_no_nan 32 (fin false m e) (ge_fin m e g))
-
-pub far_all : (l : Float) → le (fin false 1 (pos 6)) l ≡ true → to_unsigned 32 (l ⊗ per_turn) ≡ 2 ^ 32 - 1
-unfolding mul round
-far_all l h = go l h (at_least 6 l h)
-  where
-    go : (x : Float) → le (fin false 1 (pos 6)) x ≡ true → AtLeast 6 x → to_unsigned 32 (x ⊗ per_turn) ≡ 2 ^ 32 - 1
-    go _ k ge_inf = all (inf false) ge_inf
-    go _ k (ge_fin m e g) =
-        let p : T (positive (fin false m e)) = lt→ltb 0 m (first_pos m (up e) (let d = down_pos e in omega arith)) in
-        all (fin false m e ⊗ per_turn) (at_least 32 (fin false m e ⊗ per_turn) (is_true (le (fin false 1 (pos 32)) (fin false m e ⊗ per_turn)) (mul_mono binary32 (fin false 1 (pos 6)) (fin false m e) per_turn per_turn tt p tt tt (subst T (sym k) tt) same_per_turn)))
-
 -- ---- by the code's test
 
-pub near_within : (pm : Float) → (le (fin true 31 (pos 0)) pm && le pm (fin false 15 (pos 1))) ≡ true
-    → Within (pm ⊕ lift)
+pub near_within : (pm : Float) → near_by pm ≡ true → Within (pm ⊕ lift)
+unfolding near_by decimal minus_decimal
 near_within pm h =
     let p = both (le (fin true 31 (pos 0)) pm) (le pm (fin false 15 (pos 1))) h in
     lifted_within pm p.0 p.1

@@ -21,6 +21,7 @@ use mir.ValLaws.{to_z_pos}
 use Rattle.numbers.specs.F32.{◌⊕◌, ◌⊗◌}
 use Rattle.numbers.proofs.Views.{on, AtLeast, ge_inf, ge_fin, Under, lt_fin}
 use Rattle.numbers.proofs.Casts.{no_fraction, digits_lt}
+use Rattle.sine.specs.Sine.{near_by}
 use Rattle.sine.proofs.Near.{lift, per_turn, lowest, highest, Within, near_within, within_whole, within_below}
 
 -- a turn in the phase's steps
@@ -160,7 +161,7 @@ pub record Turned (x : Float) (steps : ℕ) : Type 0 where
   pub cast : to_z w64 (of_z w64 (to_signed 63 x)) ≡ pos (steps * 64)
   pub small : steps * 64 < 2 ^ 64
 
-pub near_turned : (pm : Float) → (le (fin true 31 (pos 0)) pm && le pm (fin false 15 (pos 1))) ≡ true
+pub near_turned : (pm : Float) → near_by pm ≡ true
     → Turned ((pm ⊕ lift) ⊗ turn) (to_unsigned 32 ((pm ⊕ lift) ⊗ per_turn))
 near_turned pm h = go (pm ⊕ lift) (near_within pm h)
   where

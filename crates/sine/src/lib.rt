@@ -41,6 +41,7 @@ pub fn sine(lut: &[f32; 641], phase: f32) -> f32
 
 // The sine at a phase of 32 bits plus a modulation in turns, from -32 up to 32: beyond that, and at a
 // NaN, Rust's cast decides. Where the lent pairs are the sine's, it is finite and from -1 to 1 at every modulation.
+#[tactic(auto, unfolding(crate::specs::Sine::sine_pm))]
 pub fn sine_pm(pairs: &[f32; 1024], phase: u32, pm: f32) -> f32
     ensures { (result ≡ sine_pm pairs.now phase pm) × (pairs.now ≡ sine_pairs → T (within result)) }
 {
@@ -48,10 +49,11 @@ pub fn sine_pm(pairs: &[f32; 1024], phase: u32, pm: f32) -> f32
 }
 
 // The phase plus the modulation, wrapped.
+#[tactic(auto, unfolding(crate::specs::Sine::modulated))]
 fn modulate(phase: u32, pm: f32) -> u32
     ensures { result ≡ modulated phase pm }
 {
-    numbers::wrapping_add_u32(phase, turned(pm))
+    phase.wrapping_add(turned(pm))
 }
 
 // A modulation in the phase's own steps, of which 64 make one of `steps`, wrapped. From -31 to 30 turns they are whole
@@ -61,7 +63,7 @@ fn turned(pm: f32) -> u32
     ensures { result ≡ product32 (steps_of pm) 64 }
 {
     let lifted = pm + 32.0;
-    if (pm >= -31.0) & (pm <= 30.0) {
+    if is_near(pm) {
         let turns = ((lifted * 4294967296.0) as f64) as i64;
         return ((turns as u64) % 4294967296) as u32;
     }
@@ -77,11 +79,12 @@ pub fn is_near(pm: f32) -> bool
 
 // The phase plus a modulation from -31 to 30 turns, wrapped: no test and a cast to i32, so that a loop of it is done
 // four samples at a time.
+#[tactic(auto, unfolding(crate::specs::Sine::modulated))]
 pub fn modulate_near(phase: u32, pm: f32) -> u32
     requires { near_by pm ≡ true }
     ensures { result ≡ modulated phase pm }
 {
-    numbers::wrapping_add_u32(phase, turned_near(pm))
+    phase.wrapping_add(turned_near(pm))
 }
 
 // Such a modulation in the phase's own steps. Lifted it is from 1 to 62, so times 2^25 it is a whole number below 2^31.
@@ -97,12 +100,7 @@ fn turned_near(pm: f32) -> u32
 fn steps(pm: f32) -> u32
     ensures { result ≡ steps_of pm }
 {
-    let per_turn = 4294967296.0 / 64.0;
-    let lifted = pm + 32.0;
-    if lifted >= 64.0 {
-        return u32::MAX;
-    }
-    numbers::f32_as_u32(lifted * per_turn)
+    numbers::f32_as_u32((pm + 32.0) * (4294967296.0 / 64.0))
 }
 
 // The straight line from the entry at a phase towards the next. The phase's lowest 23 bits over 2^23 are an

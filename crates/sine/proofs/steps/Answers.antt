@@ -1,14 +1,8 @@
 -- `sine::steps` meets its contract. Assumes nothing.
-use mathlib.Core.Path.{sym}
 use lib.Ieee.{of_bits, div, round}
-use Rattle.numbers.specs.F32.{◌⊕◌, decimal}
+use Rattle.numbers.specs.F32.{decimal}
 use Rattle.sine.specs.Sine.{steps_of}
-use Rattle.sine.proofs.Near.{lift, far_all}
 use Rattle.sine.proofs.steps.Goals as goal
-
-pub returns-then-lifted : goal.returns-then-lifted
-unfolding steps_of decimal of_bits div round
-returns-then-lifted c = sym (far_all (c.args.pm ⊕ lift) c.if-lifted.true)
 
 pub returns : goal.returns
 unfolding steps_of decimal of_bits div round
