@@ -52,7 +52,7 @@ pub fn operator_level(level: u8) -> Level
     if level > largest::WHOLE {
         return Level::Refused(6);
     }
-    let chart = dx_units_inner::level_chart();
+    let chart = dx_units_inner::LevelChart::new();
     Level::Value(dx_units_inner::operator_level(&chart, level))
 }
 

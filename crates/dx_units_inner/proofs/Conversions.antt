@@ -1,11 +1,12 @@
 -- What each conversion gives, from what its calls ensure, over plain variables. Assumes nothing.
-use mathlib.Core.Path.{◌≡◌}
-use mathlib.Core.Bool.{true, false}
+use mathlib.Core.Path.{◌≡◌, refl}
+use mathlib.Core.Bool.{true, false, ◌||◌}
 use mathlib.Core.List.{List}
-use Prim.Native.Nat.{ℕ, ◌+◌, ◌-◌, ◌*◌, ◌/◌, ◌%◌, ◌≤◌, ◌<◌, max}
+use Prim.Native.Nat.{ℕ, zero, suc, ◌+◌, ◌-◌, ◌*◌, ◌/◌, ◌%◌, ◌≤◌, ◌<◌, max}
 use native.Mathlib.Nat.{mul-le-mul}
 use native.Mathlib.Omega.{arith}
 use borrow.Author.Tests.{eq-eqb, ne_eqb, lt-ltb, le-ltb}
+use lib.Dec.{eqb}
 use lib.IntN.{ℤ}
 use lib.Ieee.{Float, binary32, neg, lt, of_int}
 use mir.Syntax.{w32}
@@ -87,14 +88,17 @@ velocity v em er = simp (er, em)
 
 -- ---- keyboard scaling
 
-module _ (t u : Float) (curve : ℕ) (eu : u ≡ minimum (t ⊗ decimal 10467 6) (decimal 1 0)) where
-  pub bent_one : curve ≡ 1 → u ⊗ u ⊗ u ⊗ decimal 96 0 ≡ bent t curve
-  unfolding bent
-  bent_one e = simp (eq-eqb curve 1 e, eu)
+one_or_two : (curve : ℕ) → 1 ≤ curve → curve < 3 → (eqb curve 1 || eqb curve 2) ≡ true
+one_or_two zero h k = absurd (omega arith)
+one_or_two (suc zero) h k = refl
+one_or_two (suc (suc zero)) h k = refl
+one_or_two (suc (suc (suc n))) h k = absurd (omega arith)
 
-  pub bent_two : (curve ≡ 1 → ⊥) → curve ≡ 2 → u ⊗ u ⊗ u ⊗ decimal 96 0 ≡ bent t curve
+module _ (t u : Float) (curve : ℕ) (eu : u ≡ minimum (t ⊗ decimal 10467 6) (decimal 1 0)) where
+  -- curves 1 and 2
+  pub bent_cube : 1 ≤ curve → curve < 3 → u ⊗ u ⊗ u ⊗ decimal 96 0 ≡ bent t curve
   unfolding bent
-  bent_two n e = simp (ne_eqb curve 1 n, eq-eqb curve 2 e, eu)
+  bent_cube h k = simp (one_or_two curve h k, eu)
 
 pub bent_not : (t : Float) (curve : ℕ) → (curve ≡ 1 → ⊥) → (curve ≡ 2 → ⊥) → t ≡ bent t curve
 unfolding bent

@@ -5,7 +5,7 @@
 // old instrument; where a curve has a jump or a corner, it stays.
 #![tactic(auto)]
 
-ghost use Rattle.std.specs.Prelude.{◌≡◌, ◌≤◌, max};
+ghost use Rattle.std.specs.Prelude.{◌≡◌, ◌≤◌};
 ghost use Rattle.dx_units_inner.specs.Tables.{level_chart, lut_coarse, lut_cube_root};
 ghost use Rattle.dx_units_inner.specs.Units.{operator_level, pitch_envelope_level, operator_envelope_increment};
 ghost use Rattle.dx_units_inner.specs.Units.{pitch_envelope_increment, lfo_steps, lfo_frequency};
@@ -15,6 +15,8 @@ ghost use Rattle.dx_units_inner.specs.Units.{pitch_mod_sensitivity_of, bent, sid
 ghost use Rattle.dx_units_inner.specs.Units.{coarse_semitones, base_semitones, fine_factor, frequency_ratio};
 
 mod tables;
+
+pub use tables::LevelChart;
 
 // The increments of an LFO's delay and of the fade that follows, in Hz: each has half a phase to go.
 #[derive(Clone, Copy)]
@@ -33,14 +35,15 @@ pub enum Ratio {
 // A level from 0 to 99 in steps up to 127, the loudest: what the chip's total level, which counts downwards, leaves of
 // 127. It is looked up in the chart, lent by a caller. The Rust computes it: from 20 on a level is one step, so that 99
 // is 127; 15 to 19 lie one step under that line; up to 14 it is a parabola, level * (36 - level) / 8, down to 0.
-pub fn operator_level(chart: &[u8; 100], level: u8) -> u8
-    requires { (level ≤ 99) × (chart.now ≡ level_chart) }
+#[tactic(auto, using(crate::proofs::Chart::chart_agrees))]
+pub fn operator_level(chart: &LevelChart, level: u8) -> u8
+    requires { level ≤ 99 }
     ensures { result ≡ operator_level level }
 {
-    chart[level as usize]
+    chart.steps[level as usize]
 }
 
-// The chart whole, to be made a local once and lent: an array's name is a copy of it.
+// The chart's numbers, to be printed and compared.
 pub fn level_chart() -> [u8; 100]
     ensures { result ≡ level_chart }
 {
@@ -87,6 +90,7 @@ pub fn lfo_frequency(rate: u8) -> f32
 
 // An LFO's rate in steps of 0.005865 Hz. The rate, stretched to 255, counts eleven of them: a straight line up to 159.
 // From 160 on the factor grows by 1 with every 16. Rate 0 is not still: it counts as the smallest number, 1.
+#[tactic(auto, using(crate::proofs::Conversions::steps_small), unfolding(crate::specs::Units::lfo_steps))]
 fn lfo_steps(rate: u8) -> u32
     ensures { result ≡ lfo_steps rate }
 {
@@ -95,9 +99,10 @@ fn lfo_steps(rate: u8) -> u32
     }
     let rate_scaled = (rate as u32 * 165) >> 6;
     if rate_scaled < 160 {
-        return rate_scaled * 11;
+        rate_scaled * 11
+    } else {
+        rate_scaled * (11 + ((rate_scaled - 160) >> 4))
     }
-    rate_scaled * (11 + ((rate_scaled - 160) >> 4))
 }
 
 // A delay from 0 to 99 as two increments in Hz: the delay's, and the fade's, which is the same in whole 128s of steps,
@@ -112,7 +117,7 @@ pub fn lfo_delay(delay: u8) -> Increments
         };
     }
     let d = delay_steps(delay);
-    let coarse = at_least_128((d >> 7) % 512 * 128);
+    let coarse = ((d >> 7) % 512 * 128).max(128);
     Increments {
         first: numbers::u32_as_f32(d) * 0.005865,
         second: numbers::u32_as_f32(coarse) * 0.005865,
@@ -121,17 +126,12 @@ pub fn lfo_delay(delay: u8) -> Increments
 
 // An LFO's delay in steps of 0.005865 Hz, an exponential in straight pieces that falls with the delay: 16 numbers
 // double them. 99 - delay as a byte, its lower half and 16 for a mantissa, its upper half for the shift.
+#[tactic(auto, unfolding(crate::specs::Units::delay_steps))]
 fn delay_steps(delay: u8) -> u32
     ensures { result ≡ delay_steps delay }
 {
     let d = (355 - delay as u32) % 256;
     numbers::wrapping_shl_u32(16 + d % 16, 1 + (d >> 4))
-}
-
-fn at_least_128(n: u32) -> u32
-    ensures { result ≡ max 128 n }
-{
-    if n < 128 { 128 } else { n }
 }
 
 // A velocity from 0 to 1 as the steps that each unit of sensitivity changes a level by: 16 times its cube root, which
@@ -183,9 +183,10 @@ pub fn keyboard_scaling(
 {
     let x = note - break_point as f32 - 15.0;
     if x > 0.0 {
-        return side_scaling(x, right_curve, right_depth);
+        side_scaling(x, right_curve, right_depth)
+    } else {
+        side_scaling(x, left_curve, left_depth)
     }
-    side_scaling(x, left_curve, left_depth)
 }
 
 // At x semitones from the break point, by the curve and the depth of that side: curves 0 and 1 go down, 2 and 3 up.
@@ -194,10 +195,11 @@ fn side_scaling(x: f32, curve: u8, depth: u8) -> f32
     ensures { result ≡ side_scaling x curve depth }
 {
     let t = bend(numbers::f32_abs(x), curve);
-    if curve < 2 {
-        return -t * depth as f32 * 0.02677;
-    }
-    t * depth as f32 * 0.02677
+    let change = match curve {
+        0 | 1 => -t,
+        _ => t,
+    };
+    change * depth as f32 * 0.02677
 }
 
 // A distance in semitones, bent. Curves 1 and 2 are cubes, slow near the break point; at 95.5 semitones, some eight
@@ -206,13 +208,10 @@ fn bend(t: f32, curve: u8) -> f32
     ensures { result ≡ bent t curve }
 {
     let u = numbers::f32_min(t * 0.010467, 1.0);
-    if curve == 1 {
-        return u * u * u * 96.0;
+    match curve {
+        1 | 2 => u * u * u * 96.0,
+        _ => t,
     }
-    if curve == 2 {
-        return u * u * u * 96.0;
-    }
-    t
 }
 
 // An operator's frequency: in mode 0 a ratio to the note's, by coarse and fine, else one to 1 Hz, fixed. The detune, 7
@@ -230,10 +229,10 @@ pub fn frequency_ratio(
 {
     let base = base_semitones(mode, coarse, fine) + (detune as f32 - 7.0) * 0.015;
     let ratio = units::semitones_to_ratio_lent(high, low, base) * fine_factor(mode, fine);
-    if mode == 0 {
-        return Ratio::Note(ratio);
+    match mode {
+        0 => Ratio::Note(ratio),
+        _ => Ratio::Hertz(ratio),
     }
-    Ratio::Hertz(ratio)
 }
 
 // The semitones without the detune: in mode 0 the coarse number's, else hundredths of a decade above 1 Hz, of which
@@ -242,10 +241,10 @@ fn base_semitones(mode: u8, coarse: u8, fine: u8) -> f32
     requires { coarse ≤ 31 }
     ensures { result ≡ base_semitones mode coarse fine }
 {
-    if mode == 0 {
-        return coarse_semitones(coarse);
+    match mode {
+        0 => coarse_semitones(coarse),
+        _ => ((coarse % 4) as u32 * 100 + fine as u32) as f32 * 0.39864,
     }
-    ((coarse % 4) as u32 * 100 + fine as u32) as f32 * 0.39864
 }
 
 // The semitones of the ratio that a coarse number names.
@@ -261,12 +260,11 @@ fn coarse_semitones(coarse: u8) -> f32
 fn fine_factor(mode: u8, fine: u8) -> f32
     ensures { result ≡ fine_factor mode fine }
 {
-    if mode == 0 {
-        if fine != 0 {
-            return 1.0 + 0.01 * fine as f32;
-        }
+    if mode == 0 && fine != 0 {
+        1.0 + 0.01 * fine as f32
+    } else {
+        1.0
     }
-    1.0
 }
 
 // Two tables whole, which no conversion shows entry by entry, to be compared with the Rust's.

@@ -1,4 +1,8 @@
 // The tables of dx_units.rs, number for number, and the chart, which the Rust has as a formula.
+#![tactic(auto)]
+
+ghost use Rattle.std.specs.Prelude.{◌≡◌};
+ghost use Rattle.dx_units_inner.specs.Tables.{level_chart};
 
 // The semitones of each coarse number's ratio: a half for 0, the number itself for the others, 12 log2 of it.
 pub const LUT_COARSE: [f32; 32] = [
@@ -46,3 +50,18 @@ pub const LEVEL_CHART: [u8; 100] = [
     100, 101, 102, 103, 104, 105, 106, 107, 108, 109, 110, 111, 112, 113, 114, 115, 116, 117, 118,
     119, 120, 121, 122, 123, 124, 125, 126, 127,
 ];
+
+// The chart, to be made once and lent: what looks a level up knows that it is the chart and no other array.
+#[derive(Clone, Copy)]
+pub struct LevelChart {
+    pub steps: [u8; 100],
+    ghost printed: { steps ≡ level_chart },
+}
+
+impl LevelChart {
+    pub fn new() -> LevelChart
+        ensures { result.steps ≡ level_chart }
+    {
+        LevelChart { steps: LEVEL_CHART }
+    }
+}

@@ -8,7 +8,7 @@ ghost use Rattle.std.specs.Prelude.{◌≡◌};
 ghost use Rattle.envelope.specs.Answers.{operator_fits, pitch_fits, set_answer, operator_set_answer, pitch_set_answer};
 ghost use Rattle.envelope.specs.Answers.{render_answer, scrub_answer, current_value_answer, value_answer};
 
-pub use envelope_inner::{Envelope, init};
+pub use envelope_inner::{Envelope, Position, init};
 
 // What setting gives: the number, and the envelope.
 #[derive(Clone, Copy)]
@@ -84,7 +84,7 @@ pub fn render(
         };
     }
     let q = envelope_inner::render(envelope, reshape, gate, rate, ad_scale, release_scale);
-    let rendered = envelope_inner::move_to(envelope, q.stage, q.phase, q.start);
+    let rendered = envelope.move_to(q);
     Rendered {
         number: 0,
         envelope: rendered,
@@ -126,7 +126,15 @@ pub fn value(envelope: Envelope, reshape: bool, stage: usize, phase: f32, start_
     }
     Read {
         number: 0,
-        value: envelope_inner::value(envelope, reshape, stage, phase, start_level),
+        value: envelope_inner::value(
+            envelope,
+            reshape,
+            Position {
+                stage,
+                phase,
+                start: start_level,
+            },
+        ),
     }
 }
 
@@ -146,7 +154,7 @@ pub fn operator_set(envelope: Envelope, rate: [u8; 4], level: [u8; 4], global_le
             envelope: envelope,
         };
     }
-    let chart = dx_units_inner::level_chart();
+    let chart = dx_units_inner::LevelChart::new();
     let set = envelope_inner::operator_set(&chart, envelope, rate, level, global_level);
     Prepared {
         number: 0,

@@ -87,6 +87,10 @@ moved_to e stage phase start = record {
   scale = e.scale;
 }
 
+-- where it stands
+abbrev pub position_of : Envelope → Position
+position_of e = record { stage = e.stage; phase = e.phase; start = e.start }
+
 -- and at a position
 abbrev pub standing : Envelope → Position → Envelope
 standing e q = moved_to e q.stage q.phase q.start

@@ -6,17 +6,19 @@
 
 ghost use Rattle.std.specs.Prelude.{◌≡◌, cond, ◌≤◌, get_or};
 ghost use Rattle.std.specs.Float.{nan};
-ghost use Rattle.dx_units_inner.specs.Tables.{level_chart};
 ghost use Rattle.envelope_stages.specs.Stages.{OnChart};
 ghost use Rattle.envelope_inner.specs.declared.Envelope.{Envelope};
 ghost use Rattle.envelope_inner.specs.Envelope.{initialised, start_of, segment, line, level_value, value_at};
-ghost use Rattle.envelope_inner.specs.Envelope.{current_value, gated, moved_to, standing, stepped_phase, advanced};
+ghost use Rattle.envelope_inner.specs.Envelope.{current_value, gated, position_of, standing, stepped_phase, advanced};
 ghost use Rattle.envelope_inner.specs.Envelope.{rendered};
 ghost use Rattle.envelope_inner.specs.Scrub.{reached, past_stages, held, scrubbed};
 ghost use Rattle.envelope_inner.specs.Set.{set_to, operator_set, pitch_set};
 
+use dx_units_inner::LevelChart;
+
 // A start of -100 is a mark and no level: the stage starts at the level before it. Only the stage that a gate starts
 // has a start of its own, the value at which the gate broke in. The mark is compared as a float.
+// Stays: `start_of` promises that a value of exactly -100 at which a gate breaks in counts as the mark, so no Option.
 const PREVIOUS_LEVEL: f32 = -100.0;
 
 #[derive(Clone, Copy)]
@@ -29,19 +31,50 @@ pub struct Envelope {
     pub scale: f32,
 }
 
+// Where an envelope stands.
+#[derive(Clone, Copy)]
+pub struct Position {
+    pub stage: usize,
+    pub phase: f32,
+    pub start: f32,
+}
+
+impl Envelope {
+    pub fn position(self) -> Position
+        ensures { result ≡ position_of self }
+    {
+        Position {
+            stage: self.stage,
+            phase: self.phase,
+            start: self.start,
+        }
+    }
+
+    // The same envelope at a position.
+    pub fn move_to(self, q: Position) -> Envelope
+        ensures { result ≡ standing self q }
+    {
+        Envelope {
+            stage: q.stage,
+            phase: q.phase,
+            start: q.start,
+            ..self
+        }
+    }
+}
+
 // At rest at the end of the last stage.
 pub fn init(scale: f32) -> Envelope
     ensures { result ≡ initialised scale }
 {
-    let increment = [0.001, 0.001, 0.001, 0.001];
     let level = [1.0, 0.5, 0.25, 0.0];
     Envelope {
         stage: 3,
         phase: 1.0,
         start: 0.0,
-        increment: increment,
-        level: level,
-        scale: scale,
+        increment: [0.001; 4],
+        level,
+        scale,
     }
 }
 
@@ -50,12 +83,9 @@ pub fn set(envelope: Envelope, increment: [f32; 4], level: [f32; 4]) -> Envelope
     ensures { result ≡ set_to envelope increment level }
 {
     Envelope {
-        stage: envelope.stage,
-        phase: envelope.phase,
-        start: envelope.start,
-        increment: increment,
-        level: level,
-        scale: envelope.scale,
+        increment,
+        level,
+        ..envelope
     }
 }
 
@@ -66,28 +96,24 @@ pub struct Reached {
     pub t: f32,
 }
 
+// The value at a time after the gate opened. Past the gate's end it goes on from the level there. Here a phase of
+// exactly 1 ends the release; past all stages it does not.
 pub fn render_at_sample(envelope: Envelope, reshape: bool, t: f32, gate_duration: f32) -> f32
     ensures { result ≡ scrubbed 1 reshape envelope t gate_duration }
 {
-    scrub(envelope, reshape, t, gate_duration, 1)
-}
-
-// The scrub, with so many calls of itself allowed: past the gate's end it asks itself for the level there. It does so
-// once, since the gate's end is not past itself. Here a phase of exactly 1 ends the release; past all stages it does
-// not.
-fn scrub(envelope: Envelope, reshape: bool, t: f32, gate_duration: f32, calls: u32) -> f32
-    ensures { result ≡ scrubbed calls reshape envelope t gate_duration }
-{
-    if calls == 0 {
-        return hold(envelope, reshape, t, gate_duration);
-    }
-    if t > gate_duration {
-        let done = (t - gate_duration) * envelope.increment[3];
-        if done >= 1.0 {
+    let past = t > gate_duration;
+    if past {
+        let phase = (t - gate_duration) * envelope.increment[3];
+        if phase >= 1.0 {
             return envelope.level[3];
         }
-        let end = scrub(envelope, reshape, gate_duration, gate_duration, calls - 1);
-        return value(envelope, reshape, 3, done, end);
+        let start = hold(envelope, reshape, gate_duration, gate_duration);
+        let q = Position {
+            stage: 3,
+            phase,
+            start,
+        };
+        return value(envelope, reshape, q);
     }
     hold(envelope, reshape, t, gate_duration)
 }
@@ -96,35 +122,30 @@ fn scrub(envelope: Envelope, reshape: bool, t: f32, gate_duration: f32, calls: u
 fn hold(envelope: Envelope, reshape: bool, t: f32, gate_duration: f32) -> f32
     ensures { result ≡ held reshape envelope t gate_duration }
 {
-    let reached = reach(envelope, t);
-    let stage = reached.stage;
+    let Reached { stage, t: left } = reach(envelope.increment, t);
     if stage < 3 {
-        let increment = envelope.increment;
-        let phase = reached.t * pick(increment, stage);
-        return value(envelope, reshape, stage, phase, PREVIOUS_LEVEL);
+        let q = Position {
+            stage,
+            phase: left * pick(envelope.increment, stage),
+            start: PREVIOUS_LEVEL,
+        };
+        return value(envelope, reshape, q);
     }
-    past_stages(envelope, reshape, reached.t - gate_duration)
+    past_stages(envelope, reshape, left - gate_duration)
 }
 
 // The stage in which a time lies, and the time left there.
-fn reach(envelope: Envelope, t: f32) -> Reached
-    ensures { result ≡ reached 3 0 envelope.increment t }
+fn reach(increments: [f32; 4], mut t: f32) -> Reached
+    ensures { result ≡ reached 3 0 increments t }
 {
-    let mut left = t;
-    let mut stage = 0;
-    while stage < 3 {
-        let increment = envelope.increment;
-        let duration = 1.0 / pick(increment, stage);
-        if left < duration {
-            break;
+    for (stage, increment) in increments[..3].iter().enumerate() {
+        let duration = 1.0 / *increment;
+        if t < duration {
+            return Reached { stage, t };
         }
-        left -= duration;
-        stage += 1;
+        t -= duration;
     }
-    Reached {
-        stage: stage,
-        t: left,
-    }
+    Reached { stage: 3, t }
 }
 
 // Past all stages. The time left is at most the gate's, so this is sustain: the third level itself, neither bent nor
@@ -139,15 +160,12 @@ fn past_stages(envelope: Envelope, reshape: bool, t: f32) -> f32
     if phase > 1.0 {
         return envelope.level[3];
     }
-    value(envelope, reshape, 3, phase, PREVIOUS_LEVEL)
-}
-
-// Where an envelope stands.
-#[derive(Clone, Copy)]
-pub struct Position {
-    pub stage: usize,
-    pub phase: f32,
-    pub start: f32,
+    let q = Position {
+        stage: 3,
+        phase,
+        start: PREVIOUS_LEVEL,
+    };
+    value(envelope, reshape, q)
 }
 
 // Where an envelope stands a call later: the position alone, so that the envelope is copied only where it is stored.
@@ -160,18 +178,10 @@ pub fn render(
     release_scale: f32,
 ) -> Position
     requires { envelope.stage ≤ 3 }
-    ensures { moved_to envelope result.stage result.phase result.start
-        ≡ rendered reshape gate rate ad_scale release_scale envelope }
+    ensures { standing envelope result ≡ rendered reshape gate rate ad_scale release_scale envelope }
 {
-    let level = envelope.level;
-    let increment = envelope.increment;
-    let q = Position {
-        stage: envelope.stage,
-        phase: envelope.phase,
-        start: envelope.start,
-    };
-    let followed = follow(level, q, reshape, gate);
-    let phase = step(increment, followed, rate, ad_scale, release_scale);
+    let followed = follow(envelope.level, envelope.position(), reshape, gate);
+    let phase = step(envelope.increment, followed, rate, ad_scale, release_scale);
     advance(followed, phase)
 }
 
@@ -181,11 +191,11 @@ fn follow(level: [f32; 4], q: Position, reshape: bool, gate: bool) -> Position
     ensures { (e : Envelope) → e.level ≡ level → standing e result ≡ gated reshape gate (standing e q) }
 {
     if gate == (q.stage == 3) {
-        let start = value_at(level, reshape, q.stage, q.phase, q.start);
+        let start = value_at(level, reshape, q);
         return Position {
             stage: started(gate),
             phase: 0.0,
-            start: start,
+            start,
         };
     }
     q
@@ -195,10 +205,7 @@ fn follow(level: [f32; 4], q: Position, reshape: bool, gate: bool) -> Position
 fn started(gate: bool) -> usize
     ensures { result ≡ cond gate 0 3 }
 {
-    if gate {
-        return 0;
-    }
-    3
+    if gate { 0 } else { 3 }
 }
 
 // The phase a call further.
@@ -220,67 +227,45 @@ fn step(increment: [f32; 4], q: Position, rate: f32, ad_scale: f32, release_scal
 fn advance(q: Position, phase: f32) -> Position
     ensures { (e : Envelope) → standing e result ≡ advanced phase (standing e q) }
 {
-    let stage = q.stage;
     if phase >= 1.0 {
-        if stage < 2 {
+        if q.stage < 2 {
             return Position {
-                stage: stage + 1,
+                stage: q.stage + 1,
                 phase: 0.0,
                 start: PREVIOUS_LEVEL,
             };
         }
         return Position {
-            stage: stage,
             phase: 1.0,
             start: PREVIOUS_LEVEL,
+            ..q
         };
     }
-    Position {
-        stage: stage,
-        phase: phase,
-        start: q.start,
-    }
-}
-
-// The same envelope at a phase of a stage.
-pub fn move_to(envelope: Envelope, stage: usize, phase: f32, start: f32) -> Envelope
-    ensures { result ≡ moved_to envelope stage phase start }
-{
-    let mut moved = envelope;
-    moved.stage = stage;
-    moved.phase = phase;
-    moved.start = start;
-    moved
+    Position { phase, ..q }
 }
 
 pub fn current_value(envelope: Envelope, reshape: bool) -> f32
     requires { envelope.stage ≤ 3 }
     ensures { result ≡ current_value reshape envelope }
 {
-    value(
-        envelope,
-        reshape,
-        envelope.stage,
-        envelope.phase,
-        envelope.start,
-    )
+    value(envelope, reshape, envelope.position())
 }
 
-pub fn value(envelope: Envelope, reshape: bool, stage: usize, phase: f32, start_level: f32) -> f32
-    requires { stage ≤ 3 }
-    ensures { result ≡ value_at reshape envelope stage phase start_level }
+// The value at a position, wherever the envelope stands.
+pub fn value(envelope: Envelope, reshape: bool, q: Position) -> f32
+    requires { q.stage ≤ 3 }
+    ensures { result ≡ value_at reshape envelope q.stage q.phase q.start }
 {
-    let level = envelope.level;
-    value_at(level, reshape, stage, phase, start_level)
+    value_at(envelope.level, reshape, q)
 }
 
 // The value from the levels alone.
-pub fn value_at(level: [f32; 4], reshape: bool, stage: usize, phase: f32, start_level: f32) -> f32
-    requires { stage ≤ 3 }
-    ensures { result ≡ level_value reshape level stage phase start_level }
+pub fn value_at(level: [f32; 4], reshape: bool, q: Position) -> f32
+    requires { q.stage ≤ 3 }
+    ensures { result ≡ level_value reshape level q.stage q.phase q.start }
 {
-    let from = start_of(pick(level, (stage + 3) % 4), start_level);
-    segment(reshape, phase, from, pick(level, stage))
+    let from = start_of(pick(level, (q.stage + 3) % 4), q.start);
+    segment(reshape, q.phase, from, pick(level, q.stage))
 }
 
 // One of four, by constant indexes: a variable one in a struct's array would have the whole struct copied to memory.
@@ -288,16 +273,12 @@ fn pick(a: [f32; 4], i: usize) -> f32
     requires { i ≤ 3 }
     ensures { result ≡ get_or a i nan }
 {
-    if i == 0 {
-        return a[0];
+    match i {
+        0 => a[0],
+        1 => a[1],
+        2 => a[2],
+        _ => a[3],
     }
-    if i == 1 {
-        return a[1];
-    }
-    if i == 2 {
-        return a[2];
-    }
-    a[3]
 }
 
 // Where a stage starts: at the level before it, or at a level of its own.
@@ -305,9 +286,10 @@ fn start_of(before: f32, start_level: f32) -> f32
     ensures { result ≡ start_of before start_level }
 {
     if start_level == PREVIOUS_LEVEL {
-        return before;
+        before
+    } else {
+        start_level
     }
-    start_level
 }
 
 // An operator's rising segment is bent, and it has a floor: the old chip's envelope jumps up to a threshold when it
@@ -334,13 +316,13 @@ fn line(phase: f32, from: f32, to: f32) -> f32
 
 // The chart of levels is lent: one serves all operators of a patch.
 pub fn operator_set(
-    chart: &[u8; 100],
+    chart: &LevelChart,
     envelope: Envelope,
     rate: [u8; 4],
     level: [u8; 4],
     global_level: u8,
 ) -> Envelope
-    requires { (chart.now ≡ level_chart) × OnChart level }
+    requires { OnChart level }
     ensures { result ≡ operator_set envelope rate level global_level }
 {
     let levels = envelope_stages::operator_levels(chart, level, global_level);

@@ -3,27 +3,25 @@
 #![tactic(auto)]
 
 ghost use Rattle.std.specs.Prelude.{◌≡◌, ◌≤◌};
-ghost use Rattle.dx_units_inner.specs.Tables.{level_chart};
 ghost use Rattle.envelope_stages.specs.Stages.{operator_stage_level, rising_increment, operator_stage_increment};
 ghost use Rattle.envelope_stages.specs.Stages.{OnChart, operator_levels, operator_increments};
 ghost use Rattle.envelope_stages.specs.Stages.{pitch_stage_increment, pitch_levels, pitch_increments};
 
-pub fn operator_levels(chart: &[u8; 100], level: [u8; 4], global_level: u8) -> [f32; 4]
-    requires { (chart.now ≡ level_chart) × OnChart level }
+use dx_units_inner::LevelChart;
+use std::array;
+
+#[tactic(auto, unfolding(crate::specs::Stages::operator_levels))]
+pub fn operator_levels(chart: &LevelChart, level: [u8; 4], global_level: u8) -> [f32; 4]
+    requires { OnChart level }
     ensures { result ≡ operator_levels level global_level }
 {
-    [
-        operator_stage_level(chart, level[0], global_level),
-        operator_stage_level(chart, level[1], global_level),
-        operator_stage_level(chart, level[2], global_level),
-        operator_stage_level(chart, level[3], global_level),
-    ]
+    level.map(|l| operator_stage_level(chart, l, global_level))
 }
 
 // In units of eight steps of the chip's level, which are a factor of 2 in amplitude. 133 is subtracted where one unit
 // less, 125, might be expected, as the Rust remarks; a level that falls below 1 step is half of one, so none is 0.
-fn operator_stage_level(chart: &[u8; 100], level: u8, global_level: u8) -> f32
-    requires { (level ≤ 99) × (chart.now ≡ level_chart) }
+fn operator_stage_level(chart: &LevelChart, level: u8, global_level: u8) -> f32
+    requires { level ≤ 99 }
     ensures { result ≡ operator_stage_level level global_level }
 {
     let scaled = dx_units_inner::operator_level(chart, level) as u32 / 2 * 2 + global_level as u32;
@@ -34,15 +32,14 @@ fn operator_stage_level(chart: &[u8; 100], level: u8, global_level: u8) -> f32
 }
 
 // Each stage's height is from the level before to its own; the first comes from the last.
+#[tactic(auto, unfolding(crate::specs::Stages::operator_increments))]
 pub fn operator_increments(rate: [u8; 4], level: [f32; 4], fast: bool, scale: f32) -> [f32; 4]
     ensures { result ≡ operator_increments rate level fast scale }
 {
-    [
-        operator_stage_increment(rate[0], level[3], level[0], fast) * scale,
-        operator_stage_increment(rate[1], level[0], level[1], false) * scale,
-        operator_stage_increment(rate[2], level[1], level[2], false) * scale,
-        operator_stage_increment(rate[3], level[2], level[3], false) * scale,
-    ]
+    array::from_fn(|i| {
+        let from = level[(i + 3) % 4];
+        operator_stage_increment(rate[i], from, level[i], (i == 0) & fast) * scale
+    })
 }
 
 // A falling stage's rate goes by its height. A plateau has none: it lasts as long as a fall by 1 / 0.6 would, and a
@@ -76,26 +73,21 @@ fn rising_increment(increment: f32, from: f32, to: f32) -> f32
     increment * (7.2 / (high - low))
 }
 
+#[tactic(auto, unfolding(crate::specs::Stages::pitch_levels))]
 pub fn pitch_levels(level: [u8; 4]) -> [f32; 4]
     ensures { result ≡ pitch_levels level }
 {
-    [
-        dx_units_inner::pitch_envelope_level(level[0]),
-        dx_units_inner::pitch_envelope_level(level[1]),
-        dx_units_inner::pitch_envelope_level(level[2]),
-        dx_units_inner::pitch_envelope_level(level[3]),
-    ]
+    level.map(dx_units_inner::pitch_envelope_level)
 }
 
+#[tactic(auto, unfolding(crate::specs::Stages::pitch_increments))]
 pub fn pitch_increments(rate: [u8; 4], level: [f32; 4], scale: f32) -> [f32; 4]
     ensures { result ≡ pitch_increments rate level scale }
 {
-    [
-        pitch_stage_increment(rate[0], level[3], level[0], false) * scale,
-        pitch_stage_increment(rate[1], level[0], level[1], false) * scale,
-        pitch_stage_increment(rate[2], level[1], level[2], false) * scale,
-        pitch_stage_increment(rate[3], level[2], level[3], true) * scale,
-    ]
+    array::from_fn(|i| {
+        let from = level[(i + 3) % 4];
+        pitch_stage_increment(rate[i], from, level[i], i == 3) * scale
+    })
 }
 
 // By the height, as an operator's fall; a plateau has one rate for all patches, but for the last stage.

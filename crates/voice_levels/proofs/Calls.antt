@@ -11,7 +11,7 @@ use Rattle.dx_units_step.specs.declared.Stepped.{Stepped}
 use Rattle.dx_units_step.specs.Step.{stepped_for}
 use Rattle.dx_units_inner.specs.Units.{rate_scaling_of}
 use Rattle.envelope_inner.specs.declared.Envelope.{Envelope}
-use Rattle.envelope_inner.specs.Envelope.{moved_to}
+use Rattle.envelope_inner.specs.Envelope.{standing}
 use Rattle.patch.specs.declared.Operator.{Operator}
 use Rattle.patch.specs.Form.{operator_at}
 use Rattle.voice_setup.specs.declared.Tuned.{Tuned}
@@ -28,7 +28,7 @@ pub raised_of : (g : Scene) (o : Operator) (headroom : Float) (opcode : ℕ) (e 
     → scale ≡ rate_scaling_of g.note o.rate_scaling
     → taken e p ≡ followed g.timing true (g.timing.envelope_rate ⊗ scale) e
     → s ≡ scaling_of g o headroom opcode
-    → raised_by e (record { stage = p.stage; phase = p.phase; start = p.start; level = p.value ⊕ s })
+    → raised_by e (record { position = p.position; level = p.value ⊕ s })
     ≡ raised g o headroom opcode e
 unfolding raised
 raised_of g o headroom opcode e {s = s} ec ep es = ap (λ (f : Followed). raised_by_lem f) ep ∙ rw (es, ec)
@@ -44,7 +44,7 @@ pub raised_next : (g : Scene) (ops : List Operator) (ratios : List Tuned) (headr
     → s ≡ stepped_for hz
     → raised_by (envelope_at es k) r
     ≡ raised g (operator_at ops k) (get_or headrooms k nan) (get_or row k 0) (envelope_at es k)
-    → e ≡ moved_to (envelope_at es k) r.stage r.phase r.start
+    → e ≡ standing (envelope_at es k) r.position
     → put_at k (record { envelope = e; step = s.step; mark = s.mark; amplitude = r.level }) l
     ≡ raised_to g ops ratios headrooms row es (k + 1)
 unfolding raised_to

@@ -20,7 +20,7 @@ module _ (t : Timing) (reshape : Bool) (rate : Float) (e : Envelope) {q : Positi
 
   -- and the value of its levels there is its value now
   pub place_on : {v : Float} → t.sustain ≡ false → v ≡ level_value reshape e.level q.stage q.phase q.start
-      → taken e (record { stage = q.stage; phase = q.phase; start = q.start; value = v }) ≡ followed t reshape rate e
+      → taken e (record { position = q; value = v }) ≡ followed t reshape rate e
   unfolding followed current_value value_at
   place_on s ev = rw (s, ev) (ap (λ (r : Envelope). the_followed r) eq)
     where

@@ -16,7 +16,7 @@ use Rattle.dx_units_inner.specs.Units.{rate_scaling_of, keyboard_scaling_of, amp
 use Rattle.dx_units_inner.specs.declared.Ratio.{Ratio}
 use Rattle.dx_units_inner.specs.declared.Ratio.TheVariants.{Note, Hertz}
 use Rattle.envelope_inner.specs.declared.Envelope.{Envelope}
-use Rattle.envelope_inner.specs.Envelope.{moved_to, rendered, current_value}
+use Rattle.envelope_inner.specs.Envelope.{standing, rendered, current_value}
 use Rattle.envelope_inner.specs.Scrub.{scrubbed}
 use Rattle.patch.specs.declared.Operator.{Operator}
 use Rattle.patch.specs.Form.{operator_at}
@@ -55,7 +55,7 @@ followed t reshape rate e =
 
 -- an envelope taken to where it stands then
 abbrev pub taken : Envelope → Placed → Followed
-taken e p = record { envelope = moved_to e p.stage p.phase p.start; value = p.value }
+taken e p = record { envelope = standing e p.position; value = p.value }
 
 -- ---- frequencies
 
@@ -174,7 +174,7 @@ raised g o headroom opcode e =
 
 -- an envelope taken to where it stands then
 abbrev pub raised_by : Envelope → Raised → Followed
-raised_by e r = record { envelope = moved_to e r.stage r.phase r.start; value = r.level }
+raised_by e r = record { envelope = standing e r.position; value = r.level }
 
 -- with its step and its mark, and the level in the amplitude's place
 abbrev pub stepped_with : Stepped → Followed → Leveled

@@ -12,7 +12,7 @@ ghost use Rattle.voice_levels.specs.Levels.{all_as_asked, leveled_to};
 
 use dx_units_inner::Ratio;
 use dx_units_step::{Mark, Marked};
-use envelope_inner::Envelope;
+use envelope_inner::{Envelope, Position};
 use voice_setup::Tuned;
 
 // What is left of a level where there is no amplitude modulation: 1 less the power of -6.4.
@@ -40,9 +40,7 @@ pub struct Followed {
 // Where an envelope stands after a block, and its value there.
 #[derive(Clone, Copy)]
 pub struct Placed {
-    pub stage: usize,
-    pub phase: f32,
-    pub start: f32,
+    pub position: Position,
     pub value: f32,
 }
 
@@ -61,9 +59,7 @@ pub struct Scene {
 // An operator's envelope after a block, no more of it than where it stands, and its level, not yet an amplitude.
 #[derive(Clone, Copy)]
 pub struct Raised {
-    pub stage: usize,
-    pub phase: f32,
-    pub start: f32,
+    pub position: Position,
     pub level: f32,
 }
 
@@ -110,9 +106,8 @@ pub fn follow(t: Timing, reshape: bool, rate: f32, e: Envelope) -> Followed
     ensures { result ≡ followed t reshape rate e }
 {
     let p = place(t, reshape, rate, e);
-    let envelope = envelope_inner::move_to(e, p.stage, p.phase, p.start);
     Followed {
-        envelope,
+        envelope: e.move_to(p.position),
         value: p.value,
     }
 }
@@ -129,22 +124,12 @@ fn place(t: Timing, reshape: bool, rate: f32, e: Envelope) -> Placed
             t.envelope_sample,
             t.gate_duration,
         );
-        return Placed {
-            stage: e.stage,
-            phase: e.phase,
-            start: e.start,
-            value,
-        };
+        let position = e.position();
+        return Placed { position, value };
     }
-    let q = envelope_inner::render(e, reshape, t.gate, rate, t.ad_scale, t.release_scale);
-    let level = e.level;
-    let value = envelope_inner::value_at(level, reshape, q.stage, q.phase, q.start);
-    Placed {
-        stage: q.stage,
-        phase: q.phase,
-        start: q.start,
-        value,
-    }
+    let position = envelope_inner::render(e, reshape, t.gate, rate, t.ad_scale, t.release_scale);
+    let value = envelope_inner::value_at(e.level, reshape, position);
+    Placed { position, value }
 }
 
 // The note's frequency in turns a sample, with the pitch modulation in octaves. `a0` is 55 Hz; a quarter of it at note
@@ -246,9 +231,7 @@ fn raise_operator(
     let p = place(t, true, rate, e);
     let level = p.value + scaling(g, op, level_headroom, opcode);
     Raised {
-        stage: p.stage,
-        phase: p.phase,
-        start: p.start,
+        position: p.position,
         level,
     }
 }
@@ -285,7 +268,7 @@ fn raise_operators(
         let o = op[i];
         let e = operator_envelope[i];
         let one = raise_operator(g, o, level_headroom[i], row[i], e);
-        let envelope = envelope_inner::move_to(e, one.stage, one.phase, one.start);
+        let envelope = e.move_to(one.position);
         l.operator_envelope[i] = envelope;
         l.amplitudes[i] = one.level;
         i = i + 1;

@@ -3,11 +3,10 @@
 #![tactic(auto)]
 
 ghost use Rattle.std.specs.Prelude.{◌≡◌, ◌≤◌, T};
-ghost use Rattle.dx_units_inner.specs.Tables.{level_chart};
 ghost use Rattle.patch.specs.Packed.{operator_fits, operators_fit};
 ghost use Rattle.voice_setup.specs.Setup.{headroom_of, operator_set_up, set_up_to};
 
-use dx_units_inner::Ratio;
+use dx_units_inner::{LevelChart, Ratio};
 use envelope_inner::Envelope;
 
 // A frequency ratio, as an element of an array.
@@ -42,13 +41,13 @@ fn headroom(level: u8) -> f32
 }
 
 fn operator_setup(
-    chart: &[u8; 100],
+    chart: &LevelChart,
     high: &[f32; 256],
     low: &[f32; 256],
     e: Envelope,
     op: patch::Operator,
 ) -> OperatorSetup
-    requires { (chart.now ≡ level_chart) × T (operator_fits op) }
+    requires { T (operator_fits op) }
     ensures { result ≡ operator_set_up high.now low.now e op }
 {
     let level = dx_units_inner::operator_level(chart, op.level);
@@ -78,7 +77,7 @@ pub fn setup_operators(
 {
     // In this order: behind the chart's making, `before` would be copied once more.
     let mut s = before;
-    let chart = dx_units_inner::level_chart();
+    let chart = LevelChart::new();
     let mut i = 0usize;
     while i < operators {
         let e = s.operator_envelope[i];

@@ -8,9 +8,6 @@ pub returns-then-level-gt-WHOLE : goal.returns-then-level-gt-WHOLE
 unfolding operator_level_answer operator_field
 returns-then-level-gt-WHOLE c = simp (lt-leb _ _ c.if-level-gt-WHOLE.true)
 
-pub operator_level-requires : goal.operator_level-requires
-operator_level-requires c = (c.if-level-gt-WHOLE.false, c.level_chart-chart.ensures)
-
 pub returns : goal.returns
 unfolding operator_level_answer operator_field
 returns c =

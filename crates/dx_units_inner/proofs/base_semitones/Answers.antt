@@ -9,10 +9,10 @@ use Rattle.numbers.specs.F32.{decimal}
 use Rattle.dx_units_inner.proofs.Conversions.{base_note, base_hertz}
 use Rattle.dx_units_inner.proofs.base_semitones.Goals as goal
 
-pub returns-then-mode-eq0 : goal.returns-then-mode-eq0
-returns-then-mode-eq0 c =
+pub returns-in-0 : goal.returns-in-0
+returns-in-0 c =
     base_note c.args.mode c.args.coarse c.args.fine
-    c.if-mode-eq0.true
+    (omega arith)
     c.coarse_semitones.ensures
 
 pub int_to_float-result : goal.int_to_float-result
@@ -20,8 +20,8 @@ unfolding in_float
 int_to_float-result c =
     subst T (sym (le-leb (c.args.coarse % 4 * 100 + c.args.fine) 16777216 (omega arith))) tt
 
-pub returns : goal.returns
+pub returns-in_default : goal.returns-in_default
 unfolding decimal of_bits
-returns c =
+returns-in_default c =
     base_hertz c.args.mode c.args.coarse c.args.fine
-    c.if-mode-eq0.false
+    (omega arith)

@@ -11,9 +11,9 @@ returns-then-x c =
     c.args.break_point
     c.if-x.true c.side_scaling.ensures
 
-pub returns : goal.returns
+pub returns-else-x : goal.returns-else-x
 unfolding decimal of_bits
-returns c =
+returns-else-x c =
     on_left c.args.note c.args.left_depth c.args.right_depth c.args.left_curve c.args.right_curve
     c.args.break_point
-    c.if-x.false c.side_scaling-2.ensures
+    c.if-x.false c.side_scaling-else-x.ensures

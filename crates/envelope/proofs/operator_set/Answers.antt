@@ -17,10 +17,7 @@ returns-then-not-operator_fits c =
 
 pub operator_set-set-requires : goal.operator_set-set-requires
 operator_set-set-requires c =
-    let fits = c.operator_fits in (
-      c.level_chart-chart.ensures,
-      levels_on_chart _ _ _ (sym fits.ensures ∙ c.if-not-operator_fits.false),
-    )
+    levels_on_chart _ _ _ (sym c.operator_fits.ensures ∙ c.if-not-operator_fits.false)
 
 pub returns : goal.returns
 unfolding operator_set_answer

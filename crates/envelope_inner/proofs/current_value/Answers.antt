@@ -4,4 +4,4 @@ use Rattle.envelope_inner.proofs.current_value.Goals as goal
 
 pub returns : goal.returns
 unfolding current_value
-returns c = c.value.ensures
+returns c = rw c.position.ensures at c.value.ensures

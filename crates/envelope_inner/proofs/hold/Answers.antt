@@ -10,8 +10,8 @@ use Rattle.envelope_inner.proofs.hold.Goals as goal
 pub returns-then-stage-lt3 : goal.returns-then-stage-lt3
 unfolding held previous_level minus_decimal round of_bits
 returns-then-stage-lt3 c =
-    simp (sym c.reach-reached.ensures, lt-ltb _ _ c.if-stage-lt3.true) (rw c.pick.ensures at c.value.ensures)
+    simp (sym c.reach-stage.ensures, lt-ltb _ _ c.if-stage-lt3.true) (rw c.pick.ensures at c.value.ensures)
 
 pub returns : goal.returns
 unfolding held
-returns c = simp (sym c.reach-reached.ensures, le-ltb _ _ c.if-stage-lt3.false) c.past_stages.ensures
+returns c = simp (sym c.reach-stage.ensures, le-ltb _ _ c.if-stage-lt3.false) c.past_stages.ensures

@@ -7,11 +7,11 @@ pub step-phase-requires : goal.step-phase-requires
 step-phase-requires c =
     let a = c.args in
     followed_stage a.reshape a.gate a.rate a.ad_scale a.release_scale a.envelope
-    (c.follow-followed.ensures a.envelope refl) c.requires
+    (rw c.position.ensures at (c.follow-followed.ensures a.envelope refl)) c.requires
 
 pub returns : goal.returns
 returns c =
     let a = c.args in
     let e = a.envelope in
     rendered_of a.reshape a.gate a.rate a.ad_scale a.release_scale e
-    (c.follow-followed.ensures e refl) (c.step-phase.ensures e refl) (c.advance.ensures e)
+    (rw c.position.ensures at (c.follow-followed.ensures e refl)) (c.step-phase.ensures e refl) (c.advance.ensures e)

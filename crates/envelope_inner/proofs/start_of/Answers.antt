@@ -8,6 +8,6 @@ pub returns-then-start_level : goal.returns-then-start_level
 unfolding start_of previous_level minus_decimal round of_bits
 returns-then-start_level c = simp c.if-start_level.true
 
-pub returns : goal.returns
+pub returns-else-start_level : goal.returns-else-start_level
 unfolding start_of previous_level minus_decimal round of_bits
-returns c = simp c.if-start_level.false
+returns-else-start_level c = simp c.if-start_level.false

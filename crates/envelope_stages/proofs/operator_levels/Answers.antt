@@ -1,13 +1,20 @@
--- `envelope_stages::operator_levels` meets its contract. Assumes nothing.
-use Rattle.envelope_stages.specs.Stages.{operator_levels}
+-- `envelope_stages::operator_levels` meets its contract: each level that the closure is given is on the chart. Assumes
+-- nothing.
+use Rattle.std.proofs.Common.{arith, length, ◌≡◌}
+use Rattle.envelope_stages.proofs.OnChart.{each_on_chart}
 use Rattle.envelope_stages.proofs.operator_levels.Goals as goal
 
-pub returns : goal.returns
-unfolding operator_levels
-returns c =
-    simp (
-      c.operator_stage_level.ensures,
-      c.operator_stage_level-2.ensures,
-      c.operator_stage_level-3.ensures,
-      c.operator_stage_level-4.ensures,
+pub map-requires : goal.map-requires
+map-requires c =
+    let four : length c.args.level ≡ 4 = omega arith in (
+      omega arith,
+      (
+        omega arith,
+        (
+          omega arith,
+          record {
+            at = λ xs t q x u y f e κs p n w r g l. each_on_chart _ xs t u x c.requires four y e;
+          },
+        ),
+      ),
     )

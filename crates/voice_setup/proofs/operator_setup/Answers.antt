@@ -4,17 +4,17 @@ use Rattle.voice_setup.proofs.Operators.{limits, set_up_lem}
 use Rattle.voice_setup.proofs.operator_setup.Goals as goal
 
 pub operator_level-level-requires : goal.operator_level-level-requires
-operator_level-level-requires c = ((limits _ c.requires.1).level, c.requires.0)
+operator_level-level-requires c = (limits _ c.requires).level
 
 pub operator_set-envelope-requires : goal.operator_set-envelope-requires
-operator_set-envelope-requires c = (c.requires.0, (limits _ c.requires.1).levels)
+operator_set-envelope-requires c = (limits _ c.requires).levels
 
 pub headroom-level_headroom-requires : goal.headroom-level_headroom-requires
 headroom-level_headroom-requires c =
-    rw c.operator_level-level.ensures (level_at_most_127 _ (limits _ c.requires.1).level)
+    rw c.operator_level-level.ensures (level_at_most_127 _ (limits _ c.requires).level)
 
 pub frequency_ratio-ratio-requires : goal.frequency_ratio-ratio-requires
-frequency_ratio-ratio-requires c = (limits _ c.requires.1).coarse
+frequency_ratio-ratio-requires c = (limits _ c.requires).coarse
 
 pub returns : goal.returns
 returns c =

@@ -13,7 +13,7 @@ loop-i-init c = (omega arith, refl)
 pub operator_setup-one-requires : goal.operator_setup-one-requires
 unfolding operator_at no_operator scaling_with
 operator_setup-one-requires c =
-    (c.level_chart-chart.ensures, operator_at_fits _ _ (omega arith) c.requires.1)
+    operator_at_fits _ _ (omega arith) c.requires.1
 
 pub loop-i-preserved : goal.loop-i-preserved
 unfolding operator_at no_operator scaling_with put_at

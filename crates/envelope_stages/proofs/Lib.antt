@@ -1,0 +1,2 @@
+-- each of four levels on the chart
+pub mod OnChart
