@@ -238,6 +238,11 @@ fn mixed_bytes(s: &[u8; 128]) -> u8 {
     all
 }
 
+// The patch of packed bytes; for too few, the patch of zeros.
+fn read(bytes: &[u8]) -> Patch {
+    patch::unpack(Patch::new(), bytes).unwrap_or_else(|refused| refused.state)
+}
+
 // Eight patches unpacked in turn, `times` in all.
 fn unpacked_in_turn(bytes: &[u8], times: usize) -> [Patch; 8]
     requires { 1024 ≤ length bytes.now }
@@ -247,9 +252,7 @@ fn unpacked_in_turn(bytes: &[u8], times: usize) -> [Patch; 8]
     let mut i = 0usize;
     while i < times {
         let k = i % 8;
-        let read = patch::unpack(Patch::new(), &bytes[128 * k..128 * k + 128]);
-        let p = read.patch;
-        patches[k] = p;
+        patches[k] = read(&bytes[128 * k..128 * k + 128]);
         i += 1;
     }
     patches
@@ -275,7 +278,10 @@ fn checked_in_turn(patches: [Patch; 8], times: usize) -> u8 {
     let mut all = 0u8;
     let mut i = 0usize;
     while i < times {
-        all = all ^ patch_limits::check(patches[i % 8]);
+        all = all
+            ^ patch_limits::check(patches[i % 8])
+                .err()
+                .map_or(0, |r| r.number());
         i += 1;
     }
     all
@@ -284,9 +290,7 @@ fn checked_in_turn(patches: [Patch; 8], times: usize) -> u8 {
 // One patch unpacked; every field of it.
 #[unsafe(no_mangle)]
 pub extern "C" fn bench_read(bytes: &[u8]) -> u8 {
-    let read = patch::unpack(Patch::new(), bytes);
-    let p = read.patch;
-    mixed_patch(p)
+    mixed_patch(read(bytes))
 }
 
 // Patches unpacked; every field of one.
@@ -324,9 +328,7 @@ pub extern "C" fn bench_check(bytes: &[u8], times: usize) -> u8 {
 // A patch unpacked and packed again; the number.
 #[unsafe(no_mangle)]
 pub extern "C" fn bench_again(bytes: &[u8], out: &mut [u8; 128]) -> u8 {
-    let read = patch::unpack(Patch::new(), bytes);
-    let p = read.patch;
-    let done = patch_packer::pack(p);
+    let done = patch_packer::pack(read(bytes));
     let packed = done.bytes;
     *out = packed;
     done.number
@@ -452,8 +454,7 @@ fn blocks_in_turn(
 // A fresh voice with the patch of packed bytes, which its first block sets up.
 fn loaded(bytes: &[u8]) -> Voice {
     let table = algorithms_opcodes::opcodes_6_32();
-    let read = patch::unpack(Patch::new(), bytes);
-    let patch = read.patch;
+    let patch = read(bytes);
     let started = voice::init(6, 48000.0);
     let fresh = started.voice;
     let set = voice::set_patch(fresh, patch, &table);
@@ -541,8 +542,6 @@ pub extern "C" fn bench_setup(bytes: &[u8], times: u32, block: &mut [f32]) -> u3
 // The identifier of a packed patch.
 #[unsafe(no_mangle)]
 pub extern "C" fn bench_identify(bytes: &[u8]) -> u64 {
-    let read = patch::unpack(Patch::new(), bytes);
-    let p = read.patch;
-    let done = identity::identify(p);
+    let done = identity::identify(read(bytes));
     done.identifier
 }

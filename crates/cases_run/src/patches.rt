@@ -3,6 +3,7 @@ ghost use Rattle.std.specs.Prelude.{◌<◌};
 
 use crate::{heading, line};
 use patch::Patch;
+use refusals::Refusal;
 use streams::Streams;
 
 // A sound dump of zeros.
@@ -25,13 +26,18 @@ fn with(to: Streams, going: bool, text: &[u8], place: usize, b: u8) -> bool
     line(to, going, text, bank::validate(&d) as u64)
 }
 
+// The number of a refusal; 0 for none.
+fn told(refusal: Option<Refusal>) -> u64 {
+    refusal.map_or(0, |r| r.number() as u64)
+}
+
 // 1 for fewer than 128 bytes.
 fn unpacked(to: Streams, going: bool, text: &[u8], bytes: &[u8]) -> bool {
     line(
         to,
         going,
         text,
-        patch::unpack(Patch::new(), bytes).number as u64,
+        told(patch::unpack(Patch::new(), bytes).err().map(|r| r.refusal)),
     )
 }
 
@@ -45,9 +51,7 @@ fn lengths_of_patches(to: Streams, going: bool) -> bool {
 
 fn zeros() -> Patch {
     let bytes = [0u8; 128];
-    let read = patch::unpack(Patch::new(), &bytes);
-    let p = read.patch;
-    p
+    patch::unpack(Patch::new(), &bytes).unwrap_or(Patch::new())
 }
 
 // 6 for a number that is too large.
@@ -68,7 +72,7 @@ fn packing(to: Streams, going: bool) -> bool {
 fn sensitivity(to: Streams, going: bool) -> bool {
     let mut data = [0u8; 128];
     data[116] = 255;
-    let p = patch::unpack(Patch::new(), &data).patch;
+    let p = patch::unpack(Patch::new(), &data).unwrap_or(Patch::new());
     let m = p.modulations;
     let a = line(
         to,
@@ -81,7 +85,7 @@ fn sensitivity(to: Streams, going: bool) -> bool {
         to,
         b,
         b"check of that patch: ",
-        patch_limits::check(p) as u64,
+        told(patch_limits::check(p).err()),
     );
     let d = line(
         to,
@@ -102,7 +106,12 @@ fn level(to: Streams, going: bool) -> bool {
     let mut o = p.op[0];
     o.level = 100;
     p.op[0] = o;
-    line(to, going, b"level 100: ", patch_limits::check(p) as u64)
+    line(
+        to,
+        going,
+        b"level 100: ",
+        told(patch_limits::check(p).err()),
+    )
 }
 
 fn checksums(to: Streams, going: bool) -> bool {

@@ -22,8 +22,7 @@ fn parameters(note: f32) -> VoiceParameters {
 // A voice of six operators that has a packed patch.
 fn loaded(packed: &[u8]) -> Voice {
     let table = algorithms_opcodes::opcodes_6_32();
-    let read = patch::unpack(Patch::new(), packed);
-    let p = read.patch;
+    let p = patch::unpack(Patch::new(), packed).unwrap_or(Patch::new());
     let started = voice::init(6, 48000.0);
     let fresh = started.voice;
     let set = voice::set_patch(fresh, p, &table);

@@ -24,8 +24,7 @@ fn print_patch(to: Streams, name: &[u8], slot: usize, patch: Patch) -> bool {
 
 // The line of a packed patch.
 fn print_packed(to: Streams, name: &[u8], slot: usize, bytes: &[u8]) -> bool {
-    let read = patch::unpack(Patch::new(), bytes);
-    let patch = read.patch;
+    let patch = patch::unpack(Patch::new(), bytes).unwrap_or(Patch::new());
     print_patch(to, name, slot, patch)
 }
 

@@ -23,11 +23,7 @@ pub fn answer(entry: u8, s: &[u8], registers: &mut [u8], out: &mut [u8]) -> usiz
         0x20 => store(registers, patch(s, 1), out, 5),
         0x21 => unpack(s, registers, out),
         0x22 => pack(registers, out),
-        0x23 => judge_wire::put_byte(
-            out,
-            5,
-            patch_limits::check(patch(registers, judge_wire::PATCH)),
-        ),
+        0x23 => check(registers, out),
         _ => modulations_fit(s, out),
     }
 }
@@ -39,13 +35,22 @@ pub fn store(registers: &mut [u8], patch: Patch, out: &mut [u8], at: usize) -> u
 }
 
 fn unpack(s: &[u8], registers: &mut [u8], out: &mut [u8]) -> usize {
-    let done = patch::unpack(
-        patch(registers, judge_wire::PATCH),
-        judge_wire::part(s, 3, judge_wire::half(s, 1)),
-    );
-    let patch = done.patch;
-    let a = judge_wire::put_byte(out, 5, done.number);
+    let given = judge_wire::part(s, 3, judge_wire::half(s, 1));
+    match patch::unpack(patch(registers, judge_wire::PATCH), given) {
+        Ok(patch) => store_told(registers, patch, 0, out),
+        Err(refused) => store_told(registers, refused.state, refused.refusal.number(), out),
+    }
+}
+
+// Keeps a patch, and writes a number and the patch.
+fn store_told(registers: &mut [u8], patch: Patch, number: u8, out: &mut [u8]) -> usize {
+    let a = judge_wire::put_byte(out, 5, number);
     store(registers, patch, out, a)
+}
+
+fn check(registers: &[u8], out: &mut [u8]) -> usize {
+    let checked = patch_limits::check(patch(registers, judge_wire::PATCH));
+    judge_wire::put_byte(out, 5, checked.err().map_or(0, |r| r.number()))
 }
 
 fn pack(registers: &[u8], out: &mut [u8]) -> usize {

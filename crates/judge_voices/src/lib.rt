@@ -108,8 +108,7 @@ fn loaded(entry: u8, s: &[u8], v: Voice) -> Loaded {
 }
 
 fn unpacked(bytes: &[u8]) -> Patch {
-    let done = patch::unpack(Patch::new(), bytes);
-    done.patch
+    patch::unpack(Patch::new(), bytes).unwrap_or(Patch::new())
 }
 
 // The Rust's table for so many operators, 0 for the voice's own number; an empty one for another number.

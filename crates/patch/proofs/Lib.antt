@@ -1,4 +1,5 @@
 pub mod Arrays
+pub mod Defaults
 pub mod Each
 pub mod Made
 pub mod Positions

@@ -1,12 +1,15 @@
 -- What unpacking and the limits of number 6 mean, for any table, and the entries over the patch's. To be believed; the
 -- entries' contracts cite these.
 use Rattle.std.specs.Prelude.{Bool, true, cond, ◌&&◌, List, [], ◌∷◌, ℕ, ◌/◌, ◌%◌, ◌^◌, min, length, get_or, eqb, leb}
-use Rattle.std.specs.Prelude.{ltb}
+use Rattle.std.specs.Prelude.{ltb, Result, Ok, Err}
 use Rattle.patch.specs.declared.KeyboardScaling.{KeyboardScaling}
 use Rattle.patch.specs.declared.Operator.{Operator}
 use Rattle.patch.specs.declared.ModulationParameters.{ModulationParameters}
 use Rattle.patch.specs.declared.Patch.{Patch}
-use Rattle.patch.specs.declared.Unpacked.{Unpacked}
+use Rattle.refusals.specs.declared.Refusal.{Refusal}
+use Rattle.refusals.specs.declared.Refusal.TheVariants as refusal
+use Rattle.refusals.specs.declared.Refused.{Refused}
+use Rattle.refusals.specs.Answer.{refused}
 use Rattle.patch.specs.Layout.{Field, envelope_field, scaling_field, operator_field, lfo_field, field_of}
 use Rattle.patch.specs.Layout.{stages, scaling_names, operator_names, lfo_names, letters, layout, Rate, Letter}
 use Rattle.patch.specs.Form.{scaling_number, operator_number, lfo_number, number_of, operator_at, patch_with}
@@ -64,9 +67,9 @@ unfoldable pub patch_fits : Patch → Bool
 patch_fits p = within field_of (number_of p) layout && eqb p.active_operators 63
 
 -- 6 for a patch that does not fit
-unfoldable pub check_of : Patch → ℕ
-check_of p = cond (patch_fits p) 0 6
+unfoldable pub check_of : Patch → Result Unit Refusal
+check_of p = cond (patch_fits p) (Ok tt) (Err refusal.Field)
 
 -- 1 and the patch as it was for fewer than 128 bytes, else the unpacked one; more bytes are ignored
-unfoldable pub unpack_of : Patch → List ℕ → Unpacked
-unpack_of p s = cond (ltb (length s) 128) (record { number = 1; patch = p }) (record { number = 0; patch = unpacked s })
+unfoldable pub unpack_of : Patch → List ℕ → Result Patch (Refused Patch)
+unpack_of p s = cond (ltb (length s) 128) (refused refusal.ShortPatch p) (Ok (unpacked s))

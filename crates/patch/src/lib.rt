@@ -8,11 +8,13 @@ ghost use Rattle.patch.specs.Layout.{patch_sensitivity};
 ghost use Rattle.patch.specs.Form.{envelope_with, scaling_with, operator_with, modulations_with, name_with, zero_patch};
 ghost use Rattle.patch.specs.Packed.{read_in, unpacked, unpack_of};
 
+use refusals::{Refusal, Refused};
+
 pub mod largest;
 
 pub const SYX_SIZE: usize = 128;
 
-#[derive(Clone, Copy)]
+#[derive(Clone, Copy, Default)]
 pub struct Patch {
     pub op: [Operator; 6],
     pub pitch_envelope: Envelope,
@@ -25,13 +27,13 @@ pub struct Patch {
     pub active_operators: u8,
 }
 
-#[derive(Clone, Copy)]
+#[derive(Clone, Copy, Default)]
 pub struct Envelope {
     pub rate: [u8; 4],
     pub level: [u8; 4],
 }
 
-#[derive(Clone, Copy)]
+#[derive(Clone, Copy, Default)]
 pub struct KeyboardScaling {
     pub left_depth: u8,
     pub right_depth: u8,
@@ -40,7 +42,7 @@ pub struct KeyboardScaling {
     pub break_point: u8,
 }
 
-#[derive(Clone, Copy)]
+#[derive(Clone, Copy, Default)]
 pub struct Operator {
     pub envelope: Envelope,
     pub keyboard_scaling: KeyboardScaling,
@@ -54,7 +56,7 @@ pub struct Operator {
     pub detune: u8,
 }
 
-#[derive(Clone, Copy)]
+#[derive(Clone, Copy, Default)]
 pub struct ModulationParameters {
     pub delay: u8,
     pub rate: u8,
@@ -65,68 +67,12 @@ pub struct ModulationParameters {
     pub pitch_mod_sensitivity: u8,
 }
 
-// What unpacking gives: the number, and the patch or, refused, the one handed in.
-#[derive(Clone, Copy)]
-pub struct Unpacked {
-    pub number: u8,
-    pub patch: Patch,
-}
-
-// An operator of zeros.
-fn fresh_operator() -> Operator
-    ensures { result ≡ operator_with (λ n. 0) }
-{
-    let envelope = Envelope {
-        rate: [0u8; 4],
-        level: [0u8; 4],
-    };
-    let keyboard_scaling = KeyboardScaling {
-        left_depth: 0,
-        right_depth: 0,
-        left_curve: 0,
-        right_curve: 0,
-        break_point: 0,
-    };
-    Operator {
-        envelope,
-        keyboard_scaling,
-        rate_scaling: 0,
-        amp_mod_sensitivity: 0,
-        velocity_sensitivity: 0,
-        level: 0,
-        mode: 0,
-        coarse: 0,
-        fine: 0,
-        detune: 0,
-    }
-}
-
 impl Patch {
     // The patch of zeros.
     pub fn new() -> Patch
         ensures { result ≡ zero_patch }
     {
-        let o = fresh_operator();
-        let envelope = o.envelope;
-        Patch {
-            op: [o, o, o, o, o, o],
-            pitch_envelope: envelope,
-            algorithm: 0,
-            feedback: 0,
-            reset_phase: 0,
-            modulations: ModulationParameters {
-                delay: 0,
-                rate: 0,
-                pitch_mod_depth: 0,
-                amp_mod_depth: 0,
-                reset_phase: 0,
-                waveform: 0,
-                pitch_mod_sensitivity: 0,
-            },
-            transpose: 0,
-            name: [0u8; 10],
-            active_operators: 0,
-        }
+        Patch::default()
     }
 }
 
@@ -169,7 +115,7 @@ fn unpack_stages(s: &[u8], at: usize) -> Operator
     requires { at + 8 ≤ length s.now }
     ensures { result.envelope ≡ envelope_with (λ n. read_in s.now (later at (envelope_field n))) }
 {
-    let mut o = fresh_operator();
+    let mut o = Operator::default();
     let mut e = o.envelope;
     e.rate[0] = whole(s, at);
     e.rate[1] = whole(s, at + 1);
@@ -285,17 +231,16 @@ fn unpack_whole(s: &[u8]) -> Patch
     }
 }
 
-// The patch in the first 128 bytes; 1 and the patch as it was for fewer.
-pub fn unpack(patch: Patch, data: &[u8]) -> Unpacked
+// The patch in the first 128 bytes; for fewer, 1 and the patch as it was.
+pub fn unpack(patch: Patch, data: &[u8]) -> Result<Patch, Refused<Patch>>
     ensures { result ≡ unpack_of patch «data».now }
 {
     let is_short = data.len() < SYX_SIZE;
     if is_short {
-        return Unpacked { number: 1, patch };
+        return Err(Refused {
+            refusal: Refusal::ShortPatch,
+            state: patch,
+        });
     }
-    let read = unpack_whole(data);
-    Unpacked {
-        number: 0,
-        patch: read,
-    }
+    Ok(unpack_whole(data))
 }

@@ -9,6 +9,7 @@ ghost use Rattle.patch.specs.Packed.{stages_fit, scaling_fits, operator_fits, op
 ghost use Rattle.patch.specs.Packed.{name_fits, patch_fits, check_of};
 
 use patch::{KeyboardScaling, ModulationParameters, Operator, Patch, largest};
+use refusals::Refusal;
 
 // Whether the four rates or levels of an envelope are at most their largest. They are lent: an array of four bytes that
 // is handed over as a value comes in a register, to be taken apart bit by bit, where sixteen bytes can be tested as
@@ -107,10 +108,14 @@ pub fn patch_fits(p: Patch) -> bool
 }
 
 // 6 for a field above its largest number or active operators other than 63.
-pub fn check(p: Patch) -> u8
+pub fn check(p: Patch) -> Result<(), Refusal>
     ensures { result ≡ check_of p }
 {
-    if patch_fits(p) { 0 } else { 6 }
+    if patch_fits(p) {
+        Ok(())
+    } else {
+        Err(Refusal::Field)
+    }
 }
 
 // From low to high, ends allowed; no NaN.

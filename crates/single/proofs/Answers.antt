@@ -11,7 +11,9 @@ use Rattle.dump.specs.declared.Opened.{Opened}
 use Rattle.dump.specs.Dump.{yamaha_form, sum_place, size_of, channel_byte, data_of, dump_number, opened_of}
 use Rattle.dump.proofs.Numbers.{sound}
 use Rattle.patch.specs.declared.Patch.{Patch}
-use Rattle.patch.specs.declared.Unpacked.{Unpacked}
+use Rattle.std.specs.Prelude.{Result, Ok, Err}
+use Rattle.refusals.specs.declared.Refused.{Refused}
+use Rattle.refusals.specs.Answer.{number_of as refusal_number}
 use Rattle.patch.specs.Layout.{lfo_sensitivity}
 use Rattle.patch.specs.Form.{zero_patch}
 use Rattle.patch.specs.Packed.{patch_fits, unpack_of}
@@ -128,17 +130,14 @@ module _ (p : Patch) (channel : ℕ) (b : Bool) (b-is : b ≡ single_fits p) whe
   not_written e = rw (← b-is, e)
 
 -- across
-module _ (s : List ℕ) (channel : ℕ) (n : Patch) (n-is : n ≡ zero_patch) (u : Unpacked) (u-is : u ≡ unpack_of n s) where
-  unpacked_is : u ≡ unpack_of zero_patch s
-  unpacked_is = u-is ∙ ap (λ (q : Patch). unpack_of q s) n-is
-
-  pub not_unpacked : (u.number ≡ 0 → ⊥) → refused_with u.number ≡ from_packed_of s channel
+module _ (s : List ℕ) (channel : ℕ) (u : Result Patch (Refused Patch)) (u-is : u ≡ unpack_of zero_patch s) where
+  pub not_unpacked : (r : Refused Patch) → u ≡ Err r → refused_with (refusal_number r.refusal) ≡ from_packed_of s channel
   unfolding from_packed_of
-  not_unpacked h = rw (← unpacked_is, ne_eqb u.number 0 h)
+  not_unpacked r e = rw (sym u-is ∙ e)
 
-  pub is_unpacked : u.number ≡ 0 → (w : Written) → w ≡ write_of u.patch channel → w ≡ from_packed_of s channel
+  pub is_unpacked : (q : Patch) → u ≡ Ok q → (w : Written) → w ≡ write_of q channel → w ≡ from_packed_of s channel
   unfolding from_packed_of
-  is_unpacked z w e = rw (← unpacked_is, eq-eqb u.number 0 z) e
+  is_unpacked q e w h = rw (sym u-is ∙ e) h
 
 module _ (dump : List ℕ) (n : Patch) (n-is : n ≡ zero_patch) (r : Parsed) (r-is : r ≡ read_of n dump) where
   parsed_is : r ≡ read_of zero_patch dump

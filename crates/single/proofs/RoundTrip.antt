@@ -18,6 +18,7 @@ use Rattle.patch.specs.Packed.{within, unpacked, patch_fits, unpack_of}
 use Rattle.patch.proofs.Reading.{unpacked_fits}
 use Rattle.patch_packer.specs.Packing.{packed, Clean}
 use Rattle.patch_packer.proofs.RoundTrip.{unpacked_of_packed, packed_of_unpacked, length_packed}
+use Rattle.std.specs.Prelude.{Ok}
 use Rattle.single.specs.declared.Parsed.{Parsed}
 use Rattle.single.specs.declared.Written.{Written}
 use Rattle.single.specs.declared.Repacked.{Repacked}
@@ -115,7 +116,7 @@ module _ (dump : List ℕ) (zero_is : read_number dump ≡ 0) where
   same_voice = unpacked_of_packed voice (made_shaped _ 63) (fits_everywhere voice fits)
 
   pub unpack_of_to : (q : Patch)
-      → unpack_of q (to_packed_of dump).bytes ≡ record { number = 0; patch = (read_of q dump).patch }
+      → unpack_of q (to_packed_of dump).bytes ≡ Ok (read_of q dump).patch
   unfolding unpack_of
   unpack_of_to q =
       ap (λ (r : Repacked). unpack_of q r.bytes) to_accepts
@@ -160,7 +161,7 @@ module _ (s : List ℕ) (channel : ℕ) (long : 128 ≤ length s) (low : sensiti
 
   -- ACROSS AND BACK from packed bytes: the same patch, and the same bytes if they were clean
   pub patch_across : (q : Patch)
-      → unpack_of q (to_packed_of (from_packed_of s channel).bytes).bytes ≡ record { number = 0; patch = unpacked s }
+      → unpack_of q (to_packed_of (from_packed_of s channel).bytes).bytes ≡ Ok (unpacked s)
   unfolding unpack_of
   patch_across q =
       ap (λ (r : Repacked). unpack_of q r.bytes) to_of_from

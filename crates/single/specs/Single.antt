@@ -2,7 +2,7 @@
 -- the fields, their names and their limits, is `patch`'s table; the frame and the checksum are those of every dump.
 -- Only where a field stands is said here. To be believed, but for the turn of an operator's fields at the end.
 use Rattle.std.specs.Prelude.{Bool, cond, ◌&&◌, List, [], ◌∷◌, ◌++◌, map, ℕ, zero, suc, ◌+◌, ◌-◌, ◌%◌}
-use Rattle.std.specs.Prelude.{get_or, replicate, eqb, leb, ltb}
+use Rattle.std.specs.Prelude.{get_or, replicate, eqb, leb, ltb, Result, Ok, Err}
 use Rattle.dump.specs.declared.Form.{Form}
 use Rattle.dump.specs.Dump.{yamaha_form, channel_byte, data_of, dump_number}
 use Rattle.dump_writer.specs.Written.{written_of}
@@ -14,6 +14,8 @@ use Rattle.patch.specs.Form.{number_of, patch_with, zero_patch}
 use Rattle.patch.specs.Positions.{position}
 use Rattle.patch.specs.Packed.{patch_fits, unpack_of}
 use Rattle.patch_packer.specs.Packing.{packed}
+use Rattle.refusals.specs.declared.Refused.{Refused}
+use Rattle.refusals.specs.Answer.{number_of as refusal_number}
 use Rattle.single.specs.declared.Parsed.{Parsed}
 use Rattle.single.specs.declared.Written.{Written}
 use Rattle.single.specs.declared.Repacked.{Repacked}
@@ -71,10 +73,12 @@ write_of p channel =
     (record { number = 0; bytes = written_of single_form channel (data_bytes p) }) (refused_with 6)
 
 -- ACROSS: a packed patch is unpacked, with 1 for a short one, and written; a dump is read, and its patch packed
+abbrev pub write_unpacked : Result Patch (Refused Patch) → ℕ → Written
+write_unpacked (Ok p) channel = write_of p channel
+write_unpacked (Err r) channel = refused_with (refusal_number r.refusal)
+
 unfoldable pub from_packed_of : List ℕ → ℕ → Written
-from_packed_of s channel =
-    cond (eqb (unpack_of zero_patch s).number 0) (write_of (unpack_of zero_patch s).patch channel)
-    (refused_with (unpack_of zero_patch s).number)
+from_packed_of s channel = write_unpacked (unpack_of zero_patch s) channel
 
 unfoldable pub to_packed_of : List ℕ → Repacked
 to_packed_of dump = record {

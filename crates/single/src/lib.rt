@@ -155,12 +155,10 @@ pub fn write(patch: Patch, channel: u8) -> Written
 pub fn from_packed(packed: &[u8], channel: u8) -> Written
     ensures { result ≡ from_packed_of packed.now channel }
 {
-    let read = patch::unpack(Patch::new(), packed);
-    if read.number != 0 {
-        return refused(read.number);
+    match patch::unpack(Patch::new(), packed) {
+        Ok(patch) => write(patch, channel),
+        Err(short) => refused(short.refusal.number()),
     }
-    let patch = read.patch;
-    write(patch, channel)
 }
 
 // The packed form of the patch in a dump, and the dump's channel.

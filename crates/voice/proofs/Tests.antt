@@ -10,8 +10,6 @@ use lib.ListN.{length}
 use mathlib.Core.Bool.{◌&&◌, and_assoc, and-true}
 use Rattle.envelope_inner.specs.declared.Envelope.{Envelope}
 use Rattle.envelope_inner.specs.Envelope.{all_stages}
-use Rattle.patch.specs.declared.Patch.{Patch}
-use Rattle.patch.specs.Packed.{patch_fits, check_of}
 use Rattle.voice_setup.specs.Setup.{envelope_at}
 
 -- a refusal's test s, as a call gives it in u, by the test of a field or by what a branch on `!f(x)` says of f's result
@@ -27,24 +25,6 @@ module _ {u s : Bool} (e : u ≡ s) where
 
   pub accepted_by : u ≡ true → s ≡ true
   accepted_by h = sym e ∙ h
-
--- a patch's check as a number
-module _ (p : Patch) {n : ℕ} (e : n ≡ check_of p) where
-  pub check_refused : (n ≡ 0 → ⊥) → patch_fits p ≡ false
-  unfolding check_of
-  check_refused h = go (patch_fits p) refl
-    where
-      go : (b : Bool) → patch_fits p ≡ b → patch_fits p ≡ false
-      go false q = q
-      go true q = absurd (h (e ∙ simp q))
-
-  pub check_accepted : n ≡ 0 → patch_fits p ≡ true
-  unfolding check_of
-  check_accepted h = go (patch_fits p) refl
-    where
-      go : (b : Bool) → patch_fits p ≡ b → patch_fits p ≡ true
-      go true q = q
-      go false q = let z : n ≡ 6 = e ∙ simp q in absurd (omega arith)
 
 -- six stages, one by one
 abbrev fit : List Envelope → ℕ → Bool

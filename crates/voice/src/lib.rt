@@ -119,7 +119,7 @@ fn all_stages(e: [Envelope; 6]) -> bool
 fn patch_sound(operators: usize, patch: Patch, row: [u8; 6], plan: Plan) -> bool
     ensures { result ≡ patch_sound operators patch row plan }
 {
-    if patch_limits::check(patch) != 0 {
+    if !patch_limits::patch_fits(patch) {
         return false;
     }
     algorithms::is_plan_of(operators, row, plan)
@@ -220,7 +220,7 @@ pub fn set_patch(v: Voice, patch: Patch, table: &[u8]) -> Loaded
             voice: v,
         };
     }
-    if patch_limits::check(patch) != 0 {
+    if !patch_limits::patch_fits(patch) {
         return Loaded {
             number: 6,
             at: 0,

@@ -9,4 +9,4 @@ returns-then-is_short c = simp (lt-ltb _ _ c.if-is_short.true)
 
 pub returns : goal.returns
 unfolding unpack_of
-returns c = simp (le-ltb _ _ c.if-is_short.false, c.unpack_whole-read.ensures)
+returns c = simp (le-ltb _ _ c.if-is_short.false, c.unpack_whole.ensures)

@@ -4,13 +4,14 @@ use native.Mathlib.Nat.{add-zero}
 use Rattle.patch.specs.Packed.{bits_in, read_in}
 use Rattle.patch.specs.Form.{operator_with, envelope_with}
 use Rattle.patch.specs.Layout.{later, envelope_field}
+use Rattle.patch.proofs.Defaults.{zero_operator}
 use Rattle.patch.proofs.unpack_stages.Goals as goal
 
 pub returns : goal.returns
 unfolding operator_with envelope_with read_in bits_in later envelope_field
 returns c =
     rw (
-      c.fresh_operator-o.ensures,
+      zero_operator c.default-o.result c.default-o.ensures,
       c.whole.ensures,
       c.whole-2.ensures,
       c.whole-3.ensures,

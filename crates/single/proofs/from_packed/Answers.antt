@@ -1,15 +1,19 @@
 -- `single::from_packed` meets its contract: what is unpacked is written. Assumes nothing.
-use mathlib.Core.Path.{◌∙◌}
+use mathlib.Core.Path.{◌∙◌, ap}
+use Rattle.patch.specs.declared.Patch.{Patch}
+use Rattle.patch.specs.Packed.{unpack_of}
 use Rattle.single.proofs.Answers.{not_unpacked, is_unpacked}
 use Rattle.single.proofs.from_packed.Goals as goal
 
-pub returns-then-read-ne0 : goal.returns-then-read-ne0
-returns-then-read-ne0 c =
-    c.refused.ensures
-    ∙ not_unpacked c.args.packed.now c.args.channel _ c.new.ensures _
-    c.unpack-read.ensures c.if-read-ne0.true
+pub returns-in-Ok : goal.returns-in-Ok
+returns-in-Ok c =
+    let s = c.args.packed.now in
+    is_unpacked s c.args.channel _ (c.unpack.ensures ∙ ap (λ (q : Patch). unpack_of q s) c.new.ensures) _
+    c.in-Ok.is _ c.write.ensures
 
-pub returns : goal.returns
-returns c =
-    is_unpacked c.args.packed.now c.args.channel _ c.new.ensures _
-    c.unpack-read.ensures c.if-read-ne0.false _ c.write.ensures
+pub returns-in-Err : goal.returns-in-Err
+returns-in-Err c =
+    let s = c.args.packed.now in
+    c.refused.ensures
+    ∙ rw c.number.ensures
+    (not_unpacked s c.args.channel _ (c.unpack.ensures ∙ ap (λ (q : Patch). unpack_of q s) c.new.ensures) _ c.in-Err.is)
