@@ -1,11 +1,13 @@
-// The judge's entries 60 to 6f (hex, docs/ORACLE.md): the crate `lfo`. An answer stands from place 5 on. An LFO is ten
-// floats, its waveform, a bool and a signed number; the generator's number follows where it may have changed.
+// The judge's entries 60 to 6f (hex, docs/ORACLE.md): the crate `lfo`. The LFO and the generator's number are the
+// register's. On the wire an LFO is ten floats, its waveform, a bool and a signed number; the generator's number follows
+// where it may have changed.
 #![tactic(auto)]
 
+use judge_wire::{Answer, Fields};
 use lfo::{Moved, Prepared, Read};
-use lfo_inner::{Lfo, Waveform};
+use lfo_inner::{Lfo, Motion, Waveform};
 
-// The length of a call of the entry; 0 for no entry of this group.
+// The length of a call of the entry; 0 for no entry of this crate.
 pub fn length(entry: u8) -> usize {
     match entry {
         0x60 => 51,
@@ -16,52 +18,43 @@ pub fn length(entry: u8) -> usize {
     }
 }
 
-// Writes what the call answers, and answers the place behind it.
-pub fn answer(entry: u8, s: &[u8], registers: &mut [u8], out: &mut [u8]) -> usize {
+// Writes what the call answers.
+pub fn answer(entry: u8, fields: &mut Fields<'_>, kept: &mut Motion, out: &mut Answer<'_>) {
     match entry {
-        0x60 => store(registers, lfo(s, 1), judge_wire::word(s, 47), out, 5),
-        0x61..=0x63 => prepare(entry, s, registers, out),
-        0x64 | 0x65 | 0x6a | 0x6b => step(entry, s, registers, out),
-        _ => put_read(out, read(entry, lfo(registers, judge_wire::LFO))),
+        0x60 => {
+            kept.lfo = read_lfo(fields);
+            kept.state = fields.word();
+            put_motion(out, kept);
+        }
+        0x61..=0x63 => prepare(entry, fields, kept, out),
+        0x64 | 0x65 | 0x6a | 0x6b => step(entry, fields.float(), kept, out),
+        _ => put_read(out, read(entry, kept.lfo)),
     }
 }
 
-// Keeps an LFO and the generator's number, and writes them.
-fn store(registers: &mut [u8], lfo: Lfo, number: u32, out: &mut [u8], at: usize) -> usize {
-    put_lfo(registers, judge_wire::LFO as usize, lfo);
-    judge_wire::put_word(registers, judge_wire::GENERATOR as usize, number);
-    judge_wire::put_register(out, at, registers, judge_wire::LFO, 50)
+fn prepare(entry: u8, fields: &mut Fields<'_>, kept: &mut Motion, out: &mut Answer<'_>) {
+    let done = prepared(entry, fields, kept.lfo);
+    kept.lfo = done.lfo;
+    out.byte(done.number);
+    put_motion(out, kept);
 }
 
-fn generator(registers: &[u8]) -> u32 {
-    judge_wire::word(registers, judge_wire::GENERATOR as u32)
-}
-
-fn prepare(entry: u8, s: &[u8], registers: &mut [u8], out: &mut [u8]) -> usize {
-    let done = prepared(entry, s, lfo(registers, judge_wire::LFO));
-    let lfo = done.lfo;
-    let a = judge_wire::put_byte(out, 5, done.number);
-    store(registers, lfo, generator(registers), out, a)
-}
-
-fn prepared(entry: u8, s: &[u8], lfo: Lfo) -> Prepared {
+fn prepared(entry: u8, fields: &mut Fields<'_>, lfo: Lfo) -> Prepared {
     match entry {
-        0x61 => lfo::init(judge_wire::float(s, 1)),
-        0x62 => lfo::set(lfo, judge_patches::modulations(judge_wire::eight(s, 1))),
+        0x61 => lfo::init(fields.float()),
+        0x62 => lfo::set(lfo, judge_patches::read_modulations(fields)),
         _ => lfo::reset(lfo),
     }
 }
 
-fn step(entry: u8, s: &[u8], registers: &mut [u8], out: &mut [u8]) -> usize {
-    let done = moved(
-        entry,
-        lfo(registers, judge_wire::LFO),
-        generator(registers),
-        judge_wire::float(s, 1),
-    );
-    let lfo = done.lfo;
-    let a = judge_wire::put_byte(out, 5, done.number);
-    store(registers, lfo, done.state, out, a)
+fn step(entry: u8, x: f32, kept: &mut Motion, out: &mut Answer<'_>) {
+    let done = moved(entry, kept.lfo, kept.state, x);
+    *kept = Motion {
+        lfo: done.lfo,
+        state: done.state,
+    };
+    out.byte(done.number);
+    put_motion(out, kept);
 }
 
 fn moved(entry: u8, lfo: Lfo, number: u32, x: f32) -> Moved {
@@ -83,34 +76,25 @@ fn read(entry: u8, lfo: Lfo) -> Read {
     }
 }
 
-fn put_read(out: &mut [u8], done: Read) -> usize {
-    let a = judge_wire::put_byte(out, 5, done.number);
-    judge_wire::put_float(out, a, done.value)
+fn put_read(out: &mut Answer<'_>, done: Read) {
+    out.byte(done.number);
+    out.float(done.value);
 }
 
-// The LFO in the 46 bytes from a place on.
-fn lfo(s: &[u8], at: u8) -> Lfo {
-    let place = at as u32;
-    let a = judge_wire::four(s, place);
-    let b = judge_wire::four(s, place + 16);
-    let amp_mod_depth = judge_wire::float(s, place + 32);
-    let pitch_mod_depth = judge_wire::float(s, place + 36);
-    let waveform = lfo_inner::waveform_from(judge_wire::byte(s, at as usize + 40));
-    let reset_phase = judge_wire::byte(s, at as usize + 41) != 0;
-    let phase_integral = judge_wire::signed(s, place + 42);
+pub fn read_lfo(fields: &mut Fields<'_>) -> Lfo {
     Lfo {
-        phase: a[0],
-        frequency: a[1],
-        delay_phase: a[2],
-        delay_increment: [a[3], b[0]],
-        value: b[1],
-        random_value: b[2],
-        one_hz: b[3],
-        amp_mod_depth,
-        pitch_mod_depth,
-        waveform,
-        reset_phase,
-        phase_integral,
+        phase: fields.float(),
+        frequency: fields.float(),
+        delay_phase: fields.float(),
+        delay_increment: fields.floats(),
+        value: fields.float(),
+        random_value: fields.float(),
+        one_hz: fields.float(),
+        amp_mod_depth: fields.float(),
+        pitch_mod_depth: fields.float(),
+        waveform: lfo_inner::waveform_from(fields.byte()),
+        reset_phase: fields.flag(),
+        phase_integral: numbers::u32_as_i32(fields.word()),
     }
 }
 
@@ -125,18 +109,17 @@ fn number_of(w: Waveform) -> u8 {
     }
 }
 
-fn put_lfo(out: &mut [u8], at: usize, x: Lfo) -> usize {
-    let waveform = x.waveform;
-    let a = put_floats(out, at, x);
-    let b = judge_wire::put_byte(out, a, number_of(waveform));
-    let c = judge_wire::put_bool(out, b, x.reset_phase);
-    judge_wire::put_word(out, c, numbers::i32_as_u32(x.phase_integral))
+fn put_motion(out: &mut Answer<'_>, kept: &Motion) {
+    put_lfo(out, &kept.lfo);
+    out.word(kept.state);
 }
 
-fn put_floats(out: &mut [u8], at: usize, x: Lfo) -> usize {
-    let increment = x.delay_increment;
-    let a = judge_wire::put_floats(out, at, &[x.phase, x.frequency, x.delay_phase]);
-    let b = judge_wire::put_floats(out, a, &increment);
-    let c = judge_wire::put_floats(out, b, &[x.value, x.random_value, x.one_hz]);
-    judge_wire::put_floats(out, c, &[x.amp_mod_depth, x.pitch_mod_depth])
+fn put_lfo(out: &mut Answer<'_>, x: &Lfo) {
+    out.floats(&[x.phase, x.frequency, x.delay_phase]);
+    out.floats(&x.delay_increment);
+    out.floats(&[x.value, x.random_value, x.one_hz]);
+    out.floats(&[x.amp_mod_depth, x.pitch_mod_depth]);
+    out.byte(number_of(x.waveform));
+    out.flag(x.reset_phase);
+    out.word(numbers::i32_as_u32(x.phase_integral));
 }

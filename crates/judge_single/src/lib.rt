@@ -1,62 +1,51 @@
-// The judge's entries 90 to 93 (hex, docs/ORACLE.md): the crate `single`. An answer stands from place 5 on. The patch is
-// the register's.
+// The judge's entries 90 to 93 (hex, docs/ORACLE.md): the crate `single`. The patch is the register's.
 #![tactic(auto)]
 
-// The length of the call at the script's start; 0 for no entry of this crate.
-pub fn length(entry: u8, s: &[u8]) -> usize {
+use judge_wire::{Answer, Fields};
+use patch::Patch;
+
+// The length of the call whose fields these are, its entry's byte included; 0 for no entry of this crate.
+pub fn length(entry: u8, mut fields: Fields<'_>) -> usize {
     match entry {
-        0x90 | 0x93 => 3 + judge_wire::half(s, 1) as usize,
+        0x90 | 0x93 => 3 + fields.half() as usize,
         0x91 => 2,
-        0x92 => 4 + judge_wire::half(s, 1) as usize,
+        0x92 => 4 + fields.half() as usize,
         _ => 0,
     }
 }
 
-// Writes what the call answers, and answers the place behind it.
-pub fn answer(entry: u8, s: &[u8], registers: &mut [u8], out: &mut [u8]) -> usize {
+// Writes what the call answers.
+pub fn answer(entry: u8, fields: &mut Fields<'_>, patch: &mut Patch, out: &mut Answer<'_>) {
     match entry {
-        0x90 => read(s, registers, out),
-        0x91 => write(s, registers, out),
-        0x92 => from_packed(s, out),
-        _ => to_packed(s, out),
+        0x90 => read(fields.slice(), patch, out),
+        0x91 => write(*patch, fields.byte(), out),
+        0x92 => from_packed(fields.slice(), fields.byte(), out),
+        _ => to_packed(fields.slice(), out),
     }
 }
 
-// The bytes that a call was given.
-fn given<'a>(s: &'a [u8]) -> &'a [u8] {
-    judge_wire::part(s, 3, judge_wire::half(s, 1))
+fn read(dump: &[u8], patch: &mut Patch, out: &mut Answer<'_>) {
+    let done = single::read(*patch, dump);
+    *patch = done.patch;
+    out.bytes(&[done.number, done.channel]);
+    judge_patches::put_patch(out, patch);
 }
 
-fn read(s: &[u8], registers: &mut [u8], out: &mut [u8]) -> usize {
-    let done = single::read(judge_patches::patch(registers, judge_wire::PATCH), given(s));
-    let patch = done.patch;
-    let a = judge_wire::put_byte(out, 5, done.number);
-    let b = judge_wire::put_byte(out, a, done.channel);
-    judge_patches::store(registers, patch, out, b)
-}
-
-fn write(s: &[u8], registers: &[u8], out: &mut [u8]) -> usize {
-    let patch = judge_patches::patch(registers, judge_wire::PATCH);
-    let done = single::write(patch, judge_wire::byte(s, 1));
-    let bytes = done.bytes;
-    let a = judge_wire::put_byte(out, 5, done.number);
-    judge_wire::put_bytes(out, a, &bytes)
+fn write(patch: Patch, channel: u8, out: &mut Answer<'_>) {
+    let done = single::write(patch, channel);
+    out.byte(done.number);
+    out.bytes(&done.bytes);
 }
 
 // No patch is refused with 14 yet: its place is 0.
-fn from_packed(s: &[u8], out: &mut [u8]) -> usize {
-    let channel = judge_wire::byte(s, 3 + judge_wire::half(s, 1) as usize);
-    let done = single::from_packed(given(s), channel);
-    let bytes = done.bytes;
-    let a = judge_wire::put_byte(out, 5, done.number);
-    let b = judge_wire::put_byte(out, a, 0);
-    judge_wire::put_bytes(out, b, &bytes)
+fn from_packed(packed: &[u8], channel: u8, out: &mut Answer<'_>) {
+    let done = single::from_packed(packed, channel);
+    out.bytes(&[done.number, 0]);
+    out.bytes(&done.bytes);
 }
 
-fn to_packed(s: &[u8], out: &mut [u8]) -> usize {
-    let done = single::to_packed(given(s));
-    let bytes = done.bytes;
-    let a = judge_wire::put_byte(out, 5, done.number);
-    let b = judge_wire::put_byte(out, a, done.channel);
-    judge_wire::put_bytes(out, b, &bytes)
+fn to_packed(dump: &[u8], out: &mut Answer<'_>) {
+    let done = single::to_packed(dump);
+    out.bytes(&[done.number, done.channel]);
+    out.bytes(&done.bytes);
 }

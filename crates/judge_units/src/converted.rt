@@ -1,7 +1,7 @@
-// The entries 30 to 46 (hex): the crates `dx_units`, `units`, `utils`, `sine` and `random`. An answer
-// stands from place 5 on; the number of a refusal comes first, and a refused value is written as 0.
+// The entries 30 to 46 (hex): the crates `dx_units`, `units`, `utils`, `sine` and `random`. The number of a refusal comes
+// first, and a refused value is written as 0.
 use dx_units::{Converted, Delay, Level, Mark, Ratio, Stepped, Tuning};
-use patch::KeyboardScaling;
+use judge_wire::{Answer, Fields};
 
 // The length of a call of the entry; 0 for no entry of this group.
 pub fn length(entry: u8) -> usize {
@@ -15,34 +15,38 @@ pub fn length(entry: u8) -> usize {
     }
 }
 
-// Writes what the call answers, and answers the place behind it.
-pub fn answer(entry: u8, s: &[u8], out: &mut [u8]) -> usize {
+// Writes what the call answers.
+pub fn answer(entry: u8, fields: &mut Fields<'_>, out: &mut Answer<'_>) {
     match entry {
-        0x31 => put_level(out, dx_units::operator_level(judge_wire::byte(s, 1))),
-        0x36 => put_delay(out, dx_units::lfo_delay(judge_wire::byte(s, 1))),
-        0x3c => put_tuning(out, frequency_ratio(s)),
-        0x32..=0x35 | 0x37..=0x3b => put_converted(out, converted(entry, s)),
-        _ => answer_value(entry, s, out),
+        0x31 => put_level(out, dx_units::operator_level(fields.byte())),
+        0x36 => put_delay(out, dx_units::lfo_delay(fields.byte())),
+        0x3c => put_tuning(out, frequency_ratio(fields)),
+        0x32..=0x35 | 0x37..=0x3b => put_converted(out, converted(entry, fields)),
+        _ => answer_value(entry, fields, out),
     }
 }
 
 // The same for an entry that refuses nothing.
-fn answer_value(entry: u8, s: &[u8], out: &mut [u8]) -> usize {
+fn answer_value(entry: u8, fields: &mut Fields<'_>, out: &mut Answer<'_>) {
     match entry {
-        0x3d => put_stepped(out, dx_units::frequency_step(judge_wire::float(s, 1))),
-        0x41 => put_drawn(out, random::get_float(judge_wire::word(s, 1))),
-        0x45 => judge_wire::put_word(out, 5, random::get_word(judge_wire::word(s, 1))),
-        0x46 => judge_wire::put_byte(out, 5, chart_entry(judge_wire::word(s, 1))),
-        _ => judge_wire::put_float(out, 5, value(entry, s)),
+        0x3d => put_stepped(out, dx_units::frequency_step(fields.float())),
+        0x41 => {
+            let drawn = random::get_float(fields.word());
+            out.word(drawn.state);
+            out.float(drawn.value);
+        }
+        0x45 => out.word(random::get_word(fields.word())),
+        0x46 => out.byte(chart_entry(fields.word() as usize)),
+        _ => out.float(value(entry, fields)),
     }
 }
 
-fn converted(entry: u8, s: &[u8]) -> Converted {
+fn converted(entry: u8, fields: &mut Fields<'_>) -> Converted {
     match entry {
-        0x37 => dx_units::normalize_velocity(judge_wire::float(s, 1)),
-        0x38 => dx_units::rate_scaling(judge_wire::float(s, 1), judge_wire::byte(s, 5)),
-        0x3b => keyboard_scaling(s),
-        _ => converted_field(entry, judge_wire::byte(s, 1)),
+        0x37 => dx_units::normalize_velocity(fields.float()),
+        0x38 => dx_units::rate_scaling(fields.float(), fields.byte()),
+        0x3b => dx_units::keyboard_scaling(fields.float(), judge_patches::read_scaling(fields)),
+        _ => converted_field(entry, fields.byte()),
     }
 }
 
@@ -57,70 +61,39 @@ fn converted_field(entry: u8, field: u8) -> Converted {
     }
 }
 
-fn value(entry: u8, s: &[u8]) -> f32 {
+fn value(entry: u8, fields: &mut Fields<'_>) -> f32 {
     match entry {
-        0x30 => dx_units::pow_2_fast(judge_wire::float(s, 1), judge_wire::signed(s, 5)),
-        0x3e => sine(judge_wire::float(s, 1)),
-        0x3f => sine_pm(judge_wire::word(s, 1), judge_wire::float(s, 5)),
-        0x40 => units::semitones_to_ratio_safe(judge_wire::float(s, 1)),
-        0x42 => interpolate(s),
-        0x43 => interpolate_wrap(s),
-        _ => table_entry(judge_wire::byte(s, 1), judge_wire::word(s, 2)),
+        0x30 => dx_units::pow_2_fast(fields.float(), numbers::u32_as_i32(fields.word())),
+        0x3e => sine::sine(&sine::lut_sine(), fields.float()),
+        0x3f => sine::sine_pm(&sine::sine_pairs(), fields.word(), fields.float()),
+        0x40 => units::semitones_to_ratio_safe(fields.float()),
+        0x42 | 0x43 => interpolate(entry == 0x43, fields),
+        _ => table_entry(fields.byte(), fields.word()),
     }
 }
 
-fn keyboard_scaling(s: &[u8]) -> Converted {
-    let left_depth = judge_wire::byte(s, 5);
-    let right_depth = judge_wire::byte(s, 6);
-    let left_curve = judge_wire::byte(s, 7);
-    let right_curve = judge_wire::byte(s, 8);
-    let break_point = judge_wire::byte(s, 9);
-    let scaling = KeyboardScaling {
-        left_depth,
-        right_depth,
-        left_curve,
-        right_curve,
-        break_point,
-    };
-    dx_units::keyboard_scaling(judge_wire::float(s, 1), scaling)
-}
-
-fn frequency_ratio(s: &[u8]) -> Tuning {
-    let mode = judge_wire::byte(s, 1);
-    let coarse = judge_wire::byte(s, 2);
-    let fine = judge_wire::byte(s, 3);
-    let detune = judge_wire::byte(s, 4);
+fn frequency_ratio(fields: &mut Fields<'_>) -> Tuning {
+    let [mode, coarse, fine, detune] = fields.bytes::<4>();
     dx_units::frequency_ratio(mode, coarse, fine, detune)
 }
 
-fn sine(phase: f32) -> f32 {
-    let lut = sine::lut_sine();
-    sine::sine(&lut, phase)
-}
-
-fn sine_pm(phase: u32, pm: f32) -> f32 {
-    let pairs = sine::sine_pairs();
-    sine::sine_pm(&pairs, phase, pm)
-}
-
 // A lookup in one of the three long tables.
-fn interpolate(s: &[u8]) -> f32 {
-    let index = judge_wire::float(s, 2);
-    let size = judge_wire::float(s, 6);
-    match judge_wire::byte(s, 1) {
-        0 => utils::interpolate(&sine::lut_sine(), index, size),
-        1 => utils::interpolate(&units::lut_pitch_ratio_high(), index, size),
-        _ => utils::interpolate(&units::lut_pitch_ratio_low(), index, size),
+fn interpolate(wraps: bool, fields: &mut Fields<'_>) -> f32 {
+    let table = fields.byte();
+    let index = fields.float();
+    let size = fields.float();
+    match table {
+        0 => interpolate_in(&sine::lut_sine(), wraps, index, size),
+        1 => interpolate_in(&units::lut_pitch_ratio_high(), wraps, index, size),
+        _ => interpolate_in(&units::lut_pitch_ratio_low(), wraps, index, size),
     }
 }
 
-fn interpolate_wrap(s: &[u8]) -> f32 {
-    let index = judge_wire::float(s, 2);
-    let size = judge_wire::float(s, 6);
-    match judge_wire::byte(s, 1) {
-        0 => utils::interpolate_wrap(&sine::lut_sine(), index, size),
-        1 => utils::interpolate_wrap(&units::lut_pitch_ratio_high(), index, size),
-        _ => utils::interpolate_wrap(&units::lut_pitch_ratio_low(), index, size),
+fn interpolate_in(table: &[f32], wraps: bool, index: f32, size: f32) -> f32 {
+    if wraps {
+        utils::interpolate_wrap(table, index, size)
+    } else {
+        utils::interpolate(table, index, size)
     }
 }
 
@@ -131,8 +104,8 @@ fn table_entry(table: u8, index: u32) -> f32 {
         0 => at(&sine::lut_sine(), place),
         1 => at(&units::lut_pitch_ratio_high(), place),
         2 => at(&units::lut_pitch_ratio_low(), place),
-        3 => sensitivity(dx_units::amp_mod_sensitivity(short(index))),
-        4 => sensitivity(dx_units::pitch_mod_sensitivity(short(index))),
+        3 => sensitivity(dx_units::amp_mod_sensitivity(index.min(255) as u8)),
+        4 => sensitivity(dx_units::pitch_mod_sensitivity(index.min(255) as u8)),
         5 => at(&dx_units::lut_coarse(), place),
         6 => at(&dx_units::lut_cube_root(), place),
         _ => 0.0,
@@ -140,25 +113,12 @@ fn table_entry(table: u8, index: u32) -> f32 {
 }
 
 fn at(table: &[f32], place: usize) -> f32 {
-    if place < table.len() {
-        table[place]
-    } else {
-        0.0
-    }
+    table.get(place).copied().unwrap_or(0.0)
 }
 
 // A number of the level chart; 0 past its end.
-fn chart_entry(place: u32) -> u8 {
-    let chart = dx_units::level_chart();
-    if place < 100 {
-        chart[place as usize]
-    } else {
-        0
-    }
-}
-
-fn short(n: u32) -> u8 {
-    if n < 255 { n as u8 } else { 255 }
+fn chart_entry(place: usize) -> u8 {
+    dx_units::level_chart().get(place).copied().unwrap_or(0)
 }
 
 fn sensitivity(x: Converted) -> f32 {
@@ -168,87 +128,72 @@ fn sensitivity(x: Converted) -> f32 {
     }
 }
 
-fn put_level(out: &mut [u8], x: Level) -> usize {
+fn put_level(out: &mut Answer<'_>, x: Level) {
     match x {
-        Level::Value(level) => {
-            let behind = judge_wire::put_byte(out, 5, 0);
-            judge_wire::put_byte(out, behind, level)
-        }
-        Level::Refused(number) => {
-            let behind = judge_wire::put_byte(out, 5, number);
-            judge_wire::put_byte(out, behind, 0)
-        }
+        Level::Value(level) => out.bytes(&[0, level]),
+        Level::Refused(number) => out.bytes(&[number, 0]),
     }
 }
 
-fn put_stepped(out: &mut [u8], x: Stepped) -> usize {
-    let mark = x.mark;
-    let behind = judge_wire::put_word(out, 5, x.step);
-    put_mark(out, behind, mark)
+fn put_stepped(out: &mut Answer<'_>, x: Stepped) {
+    out.word(x.step);
+    put_mark(out, x.mark);
 }
 
-// Writes a mark, and answers the place behind it: 0 as asked, 1 held at the top, 2 held at zero.
-pub fn put_mark(out: &mut [u8], at: usize, mark: Mark) -> usize {
-    match mark {
-        Mark::AsAsked => judge_wire::put_byte(out, at, 0),
-        Mark::HeldAtTop => judge_wire::put_byte(out, at, 1),
-        Mark::HeldAtZero => judge_wire::put_byte(out, at, 2),
-    }
+// Writes a mark: 0 as asked, 1 held at the top, 2 held at zero.
+pub fn put_mark(out: &mut Answer<'_>, mark: Mark) {
+    out.byte(match mark {
+        Mark::AsAsked => 0,
+        Mark::HeldAtTop => 1,
+        Mark::HeldAtZero => 2,
+    });
 }
 
-fn put_converted(out: &mut [u8], x: Converted) -> usize {
+fn put_converted(out: &mut Answer<'_>, x: Converted) {
     match x {
         Converted::Value(value) => {
-            let behind = judge_wire::put_byte(out, 5, 0);
-            judge_wire::put_float(out, behind, value)
+            out.byte(0);
+            out.float(value);
         }
         Converted::Refused(number) => {
-            let behind = judge_wire::put_byte(out, 5, number);
-            judge_wire::put_float(out, behind, 0.0)
+            out.byte(number);
+            out.float(0.0);
         }
     }
 }
 
-fn put_delay(out: &mut [u8], x: Delay) -> usize {
+fn put_delay(out: &mut Answer<'_>, x: Delay) {
     match x {
         Delay::Value(increments) => {
-            let behind = judge_wire::put_byte(out, 5, 0);
-            let next = judge_wire::put_float(out, behind, increments.first);
-            judge_wire::put_float(out, next, increments.second)
+            out.byte(0);
+            out.floats(&[increments.first, increments.second]);
         }
         Delay::Refused(number) => {
-            let behind = judge_wire::put_byte(out, 5, number);
-            judge_wire::put_number(out, behind, 0, 8)
+            out.byte(number);
+            out.eight(0);
         }
     }
 }
 
-fn put_tuning(out: &mut [u8], x: Tuning) -> usize {
+fn put_tuning(out: &mut Answer<'_>, x: Tuning) {
     match x {
-        Tuning::Value(ratio) => put_ratio(out, ratio),
+        Tuning::Value(ratio) => {
+            out.byte(0);
+            put_ratio(out, ratio);
+        }
         Tuning::Refused(number) => {
-            let behind = judge_wire::put_byte(out, 5, number);
-            judge_wire::put_number(out, behind, 0, 5)
+            out.byte(number);
+            out.bytes(&[0; 5]);
         }
     }
 }
 
-// 0 for a ratio to the note, 1 for one to 1 Hz.
-fn put_ratio(out: &mut [u8], x: Ratio) -> usize {
-    let behind = judge_wire::put_byte(out, 5, 0);
-    match x {
-        Ratio::Note(ratio) => {
-            let next = judge_wire::put_byte(out, behind, 0);
-            judge_wire::put_float(out, next, ratio)
-        }
-        Ratio::Hertz(ratio) => {
-            let next = judge_wire::put_byte(out, behind, 1);
-            judge_wire::put_float(out, next, ratio)
-        }
-    }
-}
-
-fn put_drawn(out: &mut [u8], x: random::Drawn) -> usize {
-    let behind = judge_wire::put_word(out, 5, x.state);
-    judge_wire::put_float(out, behind, x.value)
+// Writes a ratio: 0 for one to the note, 1 for one to 1 Hz, and its number.
+pub fn put_ratio(out: &mut Answer<'_>, x: Ratio) {
+    let (hertz, ratio) = match x {
+        Ratio::Note(ratio) => (false, ratio),
+        Ratio::Hertz(ratio) => (true, ratio),
+    };
+    out.flag(hertz);
+    out.float(ratio);
 }

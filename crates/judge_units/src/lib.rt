@@ -2,10 +2,12 @@
 // None has a state.
 #![tactic(auto)]
 
+use judge_wire::{Answer, Fields};
+
 mod converted;
 mod leaves;
 
-pub use converted::put_mark;
+pub use converted::{put_mark, put_ratio};
 
 // The length of a call of the entry; 0 for no entry of these groups.
 pub fn length(entry: u8) -> usize {
@@ -15,11 +17,11 @@ pub fn length(entry: u8) -> usize {
     converted::length(entry)
 }
 
-// Writes what the call answers from place 5 on, and answers the place behind it.
-pub fn answer(entry: u8, s: &[u8], out: &mut [u8]) -> usize {
+// Writes what the call answers.
+pub fn answer(entry: u8, fields: &mut Fields<'_>, out: &mut Answer<'_>) {
     if entry < 0x20 {
-        let word = leaves::answer(entry, judge_wire::word(s, 1), judge_wire::word(s, 5));
-        return judge_wire::put_number(out, 5, word.value, word.width);
+        leaves::answer(entry, fields, out);
+    } else {
+        converted::answer(entry, fields, out);
     }
-    converted::answer(entry, s, out)
 }

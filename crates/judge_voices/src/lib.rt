@@ -1,14 +1,12 @@
-// The judge's entries 80 to 8f (hex, docs/ORACLE.md): the crates `voice` and `voice_render`. An answer stands from
-// place 5 on. A voice is its fields in the struct's order, 667 bytes: a ratio is its kind (0 to the note, 1 to 1 Hz)
-// and a float.
+// The judge's entries 80 to 8f (hex, docs/ORACLE.md): the crates `voice` and `voice_render`. The voice is the register's.
+// On the wire it is its fields in the struct's order, 667 bytes: a ratio is its kind (0 to the note, 1 to 1 Hz) and a
+// float.
 #![tactic(auto)]
 
-ghost use Rattle.std.specs.Prelude.{◌≤◌};
+ghost use Rattle.std.specs.Prelude.{◌<◌};
 
-use algorithms::Plan;
 use dx_units_inner::Ratio;
-use dx_units_step::Marked;
-use envelope_inner::Envelope;
+use judge_wire::{Answer, Fields};
 use operator::{Feedback, Operator};
 use patch::Patch;
 use voice::{Loaded, Prepared, Voice};
@@ -16,94 +14,81 @@ use voice_render::{Rendered, VoiceParameters};
 use voice_setup::Tuned;
 
 // The bytes of a voice, and the numbers of the longest block.
-const SIZE: u32 = 667;
+const SIZE: usize = 667;
 
 const LONGEST: usize = 4352;
 
-// The length of the call at the script's start; 0 for no entry of this group.
-pub fn length(entry: u8, s: &[u8]) -> usize {
+// The length of the call whose fields these are, its entry's byte included; 0 for no entry of this crate.
+pub fn length(entry: u8, fields: Fields<'_>) -> usize {
     match entry {
         0x80 => 9,
-        0x81 => 159 + judge_wire::half(s, 157) as usize,
+        0x81 => 159 + behind(156, fields),
         0x82 => 130,
         0x83 => 135,
         0x84 | 0x85 | 0x8b | 0x8c => 1,
         0x8a => 2,
         0x86 => 8,
-        0x87 => 29 + 4 * judge_wire::half(s, 27) as usize,
+        0x87 => 29 + 4 * behind(26, fields),
         0x88 | 0x89 => 35,
         _ => 0,
     }
 }
 
-// Writes what the call answers, and answers the place behind it.
-pub fn answer(entry: u8, s: &[u8], registers: &mut [u8], out: &mut [u8]) -> usize {
+// The two bytes behind so many, as a number.
+fn behind(size: usize, mut fields: Fields<'_>) -> usize
+    ensures { result < 65536 }
+{
+    for _ in 0..size {
+        let _passed = fields.byte();
+    }
+    fields.half() as usize
+}
+
+// Writes what the call answers.
+pub fn answer(entry: u8, fields: &mut Fields<'_>, kept: &mut Voice, out: &mut Answer<'_>) {
     match entry {
-        0x80 | 0x84 | 0x8a => prepare(entry, s, registers, out),
-        0x81..=0x83 => set(entry, s, registers, out),
-        0x85 => judge_wire::put_bytes(out, 5, held(registers)),
-        0x86 => bend(s, registers, out),
-        0x8b => set_up(registers, out),
-        0x8c => tell_patch(registers, out),
-        _ => render(entry, s, registers, out),
+        0x80 | 0x84 | 0x8a => prepare(entry, fields, kept, out),
+        0x81..=0x83 => set(entry, fields, kept, out),
+        0x85 => put_voice(out, kept),
+        0x86 => bend(fields, kept, out),
+        0x8b => set_up(kept, out),
+        0x8c => tell_patch(*kept, out),
+        _ => render(entry, fields, kept, out),
     }
 }
 
-// The voice's bytes in the registers.
-fn held<'a>(registers: &'a [u8]) -> &'a [u8] {
-    judge_wire::part(registers, judge_wire::VOICE as u32, SIZE)
+fn prepare(entry: u8, fields: &mut Fields<'_>, kept: &mut Voice, out: &mut Answer<'_>) {
+    let done = prepared(entry, fields, *kept);
+    *kept = done.voice;
+    out.byte(done.number);
+    put_voice(out, kept);
 }
 
-fn keep(registers: &mut [u8], v: Voice) {
-    put_voice(registers, judge_wire::VOICE as usize, v);
-}
-
-// Keeps a voice and writes it.
-fn store(registers: &mut [u8], v: Voice, out: &mut [u8], at: usize) -> usize {
-    keep(registers, v);
-    judge_wire::put_bytes(out, at, held(registers))
-}
-
-fn prepare(entry: u8, s: &[u8], registers: &mut [u8], out: &mut [u8]) -> usize {
-    let done = prepared(entry, s, voice(held(registers)));
-    let v = done.voice;
-    let a = judge_wire::put_byte(out, 5, done.number);
-    store(registers, v, out, a)
-}
-
-fn prepared(entry: u8, s: &[u8], v: Voice) -> Prepared {
+fn prepared(entry: u8, fields: &mut Fields<'_>, v: Voice) -> Prepared {
     match entry {
-        0x80 => voice::init(judge_wire::word(s, 1) as usize, judge_wire::float(s, 5)),
-        0x8a => voice::set_transposing(v, flag(s, 1)),
+        0x80 => voice::init(fields.word() as usize, fields.float()),
+        0x8a => voice::set_transposing(v, fields.flag()),
         _ => voice::take_patch(v),
     }
 }
 
-fn set(entry: u8, s: &[u8], registers: &mut [u8], out: &mut [u8]) -> usize {
-    let done = loaded(entry, s, voice(held(registers)));
-    let v = done.voice;
-    let a = judge_wire::put_bytes(out, 5, &[done.number, done.at]);
-    store(registers, v, out, a)
+fn set(entry: u8, fields: &mut Fields<'_>, kept: &mut Voice, out: &mut Answer<'_>) {
+    let done = loaded(entry, fields, *kept);
+    *kept = done.voice;
+    out.bytes(&[done.number, done.at]);
+    put_voice(out, kept);
 }
 
 // The patch's fields and a table; packed bytes and a stored table; packed bytes and a row, which is a table of its own.
-fn loaded(entry: u8, s: &[u8], v: Voice) -> Loaded {
+fn loaded(entry: u8, fields: &mut Fields<'_>, v: Voice) -> Loaded {
     match entry {
-        0x81 => voice::set_patch(
-            v,
-            judge_patches::patch(s, 1),
-            judge_wire::part(s, 159, judge_wire::half(s, 157)),
-        ),
-        0x82 => set_stored(
-            v,
-            unpacked(judge_wire::part(s, 1, 128)),
-            judge_wire::byte(s, 129),
-        ),
-        _ => voice::set_patch(
-            v,
-            unpacked(judge_wire::part(s, 1, 128)),
-            judge_wire::start(judge_wire::part(s, 129, 6), v.operators),
-        ),
+        0x81 => voice::set_patch(v, judge_patches::read_patch(fields), fields.slice()),
+        0x82 => set_stored(v, unpacked(fields.part(128)), fields.byte()),
+        _ => {
+            let patch = unpacked(fields.part(128));
+            let row = fields.part(6);
+            voice::set_patch(v, patch, row.get(..v.operators).unwrap_or(&[]))
+        }
     }
 }
 
@@ -121,28 +106,25 @@ fn set_stored(v: Voice, p: Patch, which: u8) -> Loaded {
     match operators {
         4 => voice::set_patch(v, p, &algorithms_opcodes::opcodes_4_8()),
         6 => voice::set_patch(v, p, &algorithms_opcodes::opcodes_6_32()),
-        _ => voice::set_patch(
-            v,
-            p,
-            judge_wire::start(&algorithms_opcodes::opcodes_6_32(), 0),
-        ),
+        _ => voice::set_patch(v, p, &[]),
     }
 }
 
 // One byte of the voice changed, and then the entry that `way` names; the register keeps it only where the call says
 // so.
-fn bend(s: &[u8], registers: &mut [u8], out: &mut [u8]) -> usize {
-    let before = voice(held(registers));
-    let place = judge_wire::VOICE as u32 + judge_wire::word(s, 1) % SIZE;
-    judge_wire::put_byte(registers, place as usize, judge_wire::byte(s, 5));
-    let done = tried(judge_wire::byte(s, 6), voice(held(registers)));
-    let v = done.voice;
-    let a = judge_wire::put_byte(out, 5, done.number);
-    let b = store(registers, v, out, a);
-    if judge_wire::byte(s, 7) == 0 {
-        keep(registers, before);
+fn bend(fields: &mut Fields<'_>, kept: &mut Voice, out: &mut Answer<'_>) {
+    let place = fields.word() as usize % SIZE;
+    let byte = fields.byte();
+    let way = fields.byte();
+    let keeps = fields.flag();
+    let mut bytes = written(kept);
+    bytes[place] = byte;
+    let done = tried(way, read_voice(&mut Fields::new(&bytes)));
+    out.byte(done.number);
+    put_voice(out, &done.voice);
+    if keeps {
+        *kept = done.voice;
     }
-    b
 }
 
 fn tried(way: u8, v: Voice) -> Prepared {
@@ -155,10 +137,9 @@ fn tried(way: u8, v: Voice) -> Prepared {
 
 fn tried_set(v: Voice) -> Prepared {
     let done = set_stored(v, unpacked(&[0u8; 128]), 0);
-    let w = done.voice;
     Prepared {
         number: done.number,
-        voice: w,
+        voice: done.voice,
     }
 }
 
@@ -176,150 +157,93 @@ fn tried_block(v: Voice) -> Prepared {
         amp_mod: 0.0,
     };
     let done = voice_render::render(v, p, &mut block);
-    let w = done.voice;
     Prepared {
         number: done.number,
-        voice: w,
+        voice: done.voice,
     }
 }
 
-fn set_up(registers: &mut [u8], out: &mut [u8]) -> usize {
-    let done = voice_render::setup(voice(held(registers)));
-    let v = done.voice;
-    let a = judge_wire::put_byte(out, 5, done.number);
-    let b = judge_wire::put_bool(out, a, done.was_dirty);
-    store(registers, v, out, b)
+fn set_up(kept: &mut Voice, out: &mut Answer<'_>) {
+    let done = voice_render::setup(*kept);
+    *kept = done.voice;
+    out.byte(done.number);
+    out.flag(done.was_dirty);
+    put_voice(out, kept);
 }
 
-fn tell_patch(registers: &[u8], out: &mut [u8]) -> usize {
-    let done = voice::patch(voice(held(registers)));
-    let p = done.patch;
-    let a = judge_wire::put_byte(out, 5, done.number);
-    let b = judge_wire::put_bool(out, a, done.has);
-    judge_patches::put_patch(out, b, p)
-}
-
-fn render(entry: u8, s: &[u8], registers: &mut [u8], out: &mut [u8]) -> usize {
-    let mut block = [0.0f32; LONGEST];
-    render_part(entry, s, registers, out, &mut block)
+fn tell_patch(v: Voice, out: &mut Answer<'_>) {
+    let done = voice::patch(v);
+    out.byte(done.number);
+    out.flag(done.has);
+    judge_patches::put_patch(out, &done.patch);
 }
 
 // Renders in the first part of a block, as long as the call says or as there is room.
-fn render_part(
-    entry: u8,
-    s: &[u8],
-    registers: &mut [u8],
-    out: &mut [u8],
-    block: &mut [f32],
-) -> usize {
-    let first = 0usize;
-    let size = sized(numbers_of(entry, s), block.len());
-    render_block(&mut block[first..size], entry, s, registers, out)
-}
-
-fn sized(n: u32, room: usize) -> usize
-    ensures { result ≤ room }
-{
-    if (n as usize) < room {
-        return n as usize;
+fn render(entry: u8, fields: &mut Fields<'_>, kept: &mut Voice, out: &mut Answer<'_>) {
+    let mut room = [0.0f32; LONGEST];
+    let p = read_parameters(fields);
+    let given = entry == 0x87;
+    let size = if given {
+        fields.half() as usize
+    } else {
+        fields.word() as usize
+    };
+    let block = &mut room[..size.min(LONGEST)];
+    if given {
+        fill_given(block, fields);
+    } else {
+        fill_seeded(block, fields.word());
     }
-    room
-}
-
-fn numbers_of(entry: u8, s: &[u8]) -> u32 {
-    if entry == 0x87 {
-        return judge_wire::half(s, 27);
+    let done = rendered(given, *kept, p, block);
+    *kept = done.voice;
+    out.byte(done.number);
+    for marked in &done.marks {
+        judge_units::put_mark(out, marked.mark);
     }
-    judge_wire::word(s, 27)
-}
-
-fn render_block(
-    block: &mut [f32],
-    entry: u8,
-    s: &[u8],
-    registers: &mut [u8],
-    out: &mut [u8],
-) -> usize {
-    fill(entry, s, block);
-    let told = render_register(entry, s, registers, block);
-    put_rendered(entry, out, told, block, held(registers))
-}
-
-// What a block says besides its samples and the voice.
-#[derive(Clone, Copy)]
-struct Told {
-    number: u8,
-    marks: [Marked; 6],
-}
-
-// Renders a block with the stored voice, keeps what becomes of it, and answers the rest.
-fn render_register(entry: u8, s: &[u8], registers: &mut [u8], block: &mut [f32]) -> Told {
-    let done = rendered(entry, voice(held(registers)), parameters(s), block);
-    let v = done.voice;
-    keep(registers, v);
-    let marks = done.marks;
-    Told {
-        number: done.number,
-        marks,
-    }
-}
-
-fn put_rendered(entry: u8, out: &mut [u8], told: Told, block: &[f32], voice: &[u8]) -> usize {
-    let marks = told.marks;
-    let number = judge_wire::put_byte(out, 5, told.number);
-    let a = put_marks(out, number, marks);
     if entry == 0x89 {
-        return judge_wire::put_number(out, a, digest(block, voice), 8);
+        out.eight(digest(block, &written(kept)));
+    } else {
+        out.length(block.len());
+        out.floats(block);
+        put_voice(out, kept);
     }
-    put_block(out, a, block, voice)
 }
 
-// The call's own samples, or draws from its seed; zeros at seed 0.
-fn fill(entry: u8, s: &[u8], block: &mut [f32]) {
-    if entry == 0x87 {
-        fill_given(block, s);
+// The call's own samples.
+fn fill_given(block: &mut [f32], fields: &mut Fields<'_>) {
+    for x in block.iter_mut() {
+        *x = fields.float();
+    }
+}
+
+// Draws between -0.5 and 0.5; what stands there at seed 0.
+fn fill_seeded(block: &mut [f32], seed: u32) {
+    if seed == 0 {
         return;
     }
-    let seed = judge_wire::word(s, 31);
-    if seed != 0 {
-        fill_seeded(block, seed);
-    }
-}
-
-fn fill_given(block: &mut [f32], s: &[u8]) {
-    let mut place = 29u32;
-    for i in 0..block.len() {
-        block[i] = judge_wire::float(s, place);
-        place = numbers::wrapping_add_u32(place, 4);
-    }
-}
-
-// Draws between -0.5 and 0.5.
-fn fill_seeded(block: &mut [f32], seed: u32) {
     let mut state = seed;
-    for i in 0..block.len() {
+    for x in block.iter_mut() {
         state = random::get_word(state);
-        block[i] = numbers::u32_as_f32(state / 256) / 16777216.0 - 0.5;
+        *x = numbers::u32_as_f32(state / 256) / 16777216.0 - 0.5;
     }
 }
 
-fn parameters(s: &[u8]) -> VoiceParameters {
-    let a = judge_wire::four(s, 3);
+fn read_parameters(fields: &mut Fields<'_>) -> VoiceParameters {
     VoiceParameters {
-        sustain: judge_wire::byte(s, 1) != 0,
-        gate: judge_wire::byte(s, 2) != 0,
-        note: a[0],
-        velocity: a[1],
-        brightness: a[2],
-        envelope_control: a[3],
-        pitch_mod: judge_wire::float(s, 19),
-        amp_mod: judge_wire::float(s, 23),
+        sustain: fields.flag(),
+        gate: fields.flag(),
+        note: fields.float(),
+        velocity: fields.float(),
+        brightness: fields.float(),
+        envelope_control: fields.float(),
+        pitch_mod: fields.float(),
+        amp_mod: fields.float(),
     }
 }
 
 // Given blocks are rendered by the entry that makes its tables, seeded ones by that which is lent them.
-fn rendered(entry: u8, v: Voice, p: VoiceParameters, block: &mut [f32]) -> Rendered {
-    if entry == 0x87 {
+fn rendered(given: bool, v: Voice, p: VoiceParameters, block: &mut [f32]) -> Rendered {
+    if given {
         return voice_render::render(v, p, block);
     }
     let pairs = sine::sine_pairs();
@@ -328,270 +252,112 @@ fn rendered(entry: u8, v: Voice, p: VoiceParameters, block: &mut [f32]) -> Rende
     voice_render::render_with(&pairs, &high, &low, v, p, block)
 }
 
-// Writes a block as a slice of floats and a voice behind it.
-fn put_block(out: &mut [u8], at: usize, block: &[f32], voice: &[u8]) -> usize {
-    let a = judge_wire::put_number(out, at, block.len() as u64, 2);
-    let b = judge_wire::put_floats(out, a, block);
-    judge_wire::put_bytes(out, b, voice)
-}
-
 // FNV-1a with 64 bits, a step for the bits of each sample and then one for each byte of the voice.
 fn digest(block: &[f32], voice: &[u8]) -> u64 {
-    digest_bytes(digest_floats(0xcbf2_9ce4_8422_2325, block), voice)
-}
-
-fn digest_floats(start: u64, x: &[f32]) -> u64 {
-    let mut sum = start;
-    for i in 0..x.len() {
-        sum = mixed(sum, numbers::f32_to_bits(x[i]));
+    let mut sum = 0xcbf2_9ce4_8422_2325;
+    for x in block {
+        sum = mixed(sum, numbers::f32_to_bits(*x));
+    }
+    for b in voice {
+        sum = mixed(sum, u32::from(*b));
     }
     sum
 }
 
-fn digest_bytes(start: u64, bytes: &[u8]) -> u64 {
-    let mut sum = start;
-    for i in 0..bytes.len() {
-        sum = mixed(sum, judge_wire::byte(bytes, i) as u32);
-    }
-    sum
-}
-
-// One step: the exclusive or, times 2^40 + 435 modulo 2^64, in halves.
+// One step: the exclusive or, times 2^40 + 435 modulo 2^64.
 fn mixed(sum: u64, bits: u32) -> u64 {
-    let x = sum ^ (bits as u64);
-    let low = x % 0x1_0000_0000;
-    let high = x / 0x1_0000_0000 % 0x1_0000_0000;
-    let upper = (435 * high + 256 * (low % 0x100_0000)) % 0x1_0000_0000;
-    std::num::wrapping_add_u64(435 * low, upper * 0x1_0000_0000)
+    (sum ^ u64::from(bits)).wrapping_mul(0x0000_0100_0000_01b3)
 }
 
-// What a voice has of its patch.
-#[derive(Clone, Copy)]
-struct Setting {
-    patch: Patch,
-    row: [u8; 6],
-    plan: Plan,
+// The voice's bytes.
+fn written(v: &Voice) -> [u8; SIZE] {
+    let mut bytes = [0; SIZE];
+    put_voice(&mut Answer::new(&mut bytes), v);
+    bytes
 }
 
-// The voice in 667 bytes.
-fn voice(s: &[u8]) -> Voice {
-    let a = judge_wire::four(s, 4);
-    let b = judge_wire::four(s, 401);
-    let operator = operators(s);
-    let operator_envelope = envelopes(s);
-    let pitch_envelope = envelope(s, 353);
-    let ratios = ratios(s);
-    let level_headroom = headrooms(s);
-    let feedback_state = feedback(s);
-    let p = patch_set(s);
-    let patch = p.patch;
-    let row = p.row;
-    let plan = p.plan;
-    let operators = judge_wire::word(s, 0) as usize;
-    let gate = flag(s, 16);
-    let has_patch = flag(s, 471);
-    let dirty = flag(s, 665);
-    let transposing = flag(s, 666);
-    Voice {
-        operators,
-        sample_rate: a[0],
-        one_hz: a[1],
-        a0: a[2],
-        gate,
-        operator,
-        operator_envelope,
-        pitch_envelope,
-        normalized_velocity: b[0],
-        note: b[1],
-        ratios,
-        level_headroom,
-        feedback_state,
-        has_patch,
-        patch,
-        row,
-        plan,
-        dirty,
-        transposing,
+pub fn read_voice(fields: &mut Fields<'_>) -> Voice {
+    let mut v = read_start(fields);
+    for e in v.operator_envelope.iter_mut() {
+        *e = judge_envelopes::read_envelope(fields);
+    }
+    v.pitch_envelope = judge_envelopes::read_envelope(fields);
+    v.normalized_velocity = fields.float();
+    v.note = fields.float();
+    for t in v.ratios.iter_mut() {
+        t.ratio = read_ratio(fields);
+    }
+    v.level_headroom = fields.floats();
+    v.feedback_state = Feedback {
+        previous_0: fields.float(),
+        previous_1: fields.float(),
+    };
+    v.has_patch = fields.flag();
+    v.patch = judge_patches::read_patch(fields);
+    v.row = fields.bytes();
+    v.plan = judge_rows::read_plan(fields);
+    v.dirty = fields.flag();
+    v.transposing = fields.flag();
+    v
+}
+
+// What stands before the envelopes, in a voice that is as a refused start leaves it.
+fn read_start(fields: &mut Fields<'_>) -> Voice {
+    let mut v = voice::init(0, 0.0).voice;
+    v.operators = fields.word() as usize;
+    v.sample_rate = fields.float();
+    v.one_hz = fields.float();
+    v.a0 = fields.float();
+    v.gate = fields.flag();
+    for o in v.operator.iter_mut() {
+        *o = read_operator(fields);
+    }
+    v
+}
+
+fn read_operator(fields: &mut Fields<'_>) -> Operator {
+    Operator {
+        phase: fields.word(),
+        amplitude: fields.float(),
     }
 }
 
-fn flag(s: &[u8], at: usize) -> bool {
-    judge_wire::byte(s, at) != 0
-}
-
-fn patch_set(s: &[u8]) -> Setting {
-    let patch = judge_patches::patch(judge_wire::part(s, 472, 156), 0);
-    let row = judge_rows::six(judge_wire::part(s, 628, 6), 0);
-    let plan = judge_rows::plan(judge_wire::part(s, 634, 31), 0);
-    Setting { patch, row, plan }
-}
-
-fn operators(s: &[u8]) -> [Operator; 6] {
-    [
-        operator(s, 17),
-        operator(s, 25),
-        operator(s, 33),
-        operator(s, 41),
-        operator(s, 49),
-        operator(s, 57),
-    ]
-}
-
-fn operator(s: &[u8], at: u32) -> Operator
-    requires { at ≤ 65535 }
-{
-    let phase = judge_wire::word(s, at);
-    let amplitude = judge_wire::float(s, at + 4);
-    Operator { phase, amplitude }
-}
-
-fn envelopes(s: &[u8]) -> [Envelope; 6] {
-    [
-        envelope(s, 65),
-        envelope(s, 113),
-        envelope(s, 161),
-        envelope(s, 209),
-        envelope(s, 257),
-        envelope(s, 305),
-    ]
-}
-
-fn envelope(s: &[u8], at: u32) -> Envelope {
-    judge_envelopes::envelope(judge_wire::part(s, at, 48), 0)
-}
-
-fn ratios(s: &[u8]) -> [Tuned; 6] {
-    [
-        tuned(s, 409),
-        tuned(s, 414),
-        tuned(s, 419),
-        tuned(s, 424),
-        tuned(s, 429),
-        tuned(s, 434),
-    ]
-}
-
-fn tuned(s: &[u8], at: u32) -> Tuned
-    requires { at ≤ 65535 }
-{
-    let ratio = ratio(flag(s, at as usize), judge_wire::float(s, at + 1));
-    Tuned { ratio }
-}
-
-fn ratio(hertz: bool, x: f32) -> Ratio {
+fn read_ratio(fields: &mut Fields<'_>) -> Ratio {
+    let hertz = fields.flag();
+    let x = fields.float();
     if hertz {
-        return Ratio::Hertz(x);
-    }
-    Ratio::Note(x)
-}
-
-fn headrooms(s: &[u8]) -> [f32; 6] {
-    let a = judge_wire::four(s, 439);
-    let b = judge_wire::four(s, 447);
-    [a[0], a[1], a[2], a[3], b[2], b[3]]
-}
-
-fn feedback(s: &[u8]) -> Feedback {
-    let previous_0 = judge_wire::float(s, 463);
-    let previous_1 = judge_wire::float(s, 467);
-    Feedback {
-        previous_0,
-        previous_1,
+        Ratio::Hertz(x)
+    } else {
+        Ratio::Note(x)
     }
 }
 
-// Writes a voice, and answers the place behind it.
-fn put_voice(out: &mut [u8], at: usize, v: Voice) -> usize {
-    let operator_envelope = v.operator_envelope;
-    let pitch_envelope = v.pitch_envelope;
-    let ratios = v.ratios;
-    let a = put_start(out, at, v);
-    let b = put_envelopes(out, a, operator_envelope);
-    let c = judge_envelopes::put_envelope(out, b, pitch_envelope);
-    let d = judge_wire::put_floats(out, c, &[v.normalized_velocity, v.note]);
-    let e = put_ratios(out, d, ratios);
-    let f = put_levels(out, e, v);
-    put_patch(out, f, v)
-}
-
-fn put_start(out: &mut [u8], at: usize, v: Voice) -> usize {
-    let operator = v.operator;
-    let a = judge_wire::put_number(out, at, v.operators as u64, 4);
-    let b = judge_wire::put_floats(out, a, &[v.sample_rate, v.one_hz, v.a0]);
-    let c = judge_wire::put_bool(out, b, v.gate);
-    put_operators(out, c, operator)
-}
-
-fn put_levels(out: &mut [u8], at: usize, v: Voice) -> usize {
-    let level_headroom = v.level_headroom;
-    let f = v.feedback_state;
-    let a = judge_wire::put_floats(out, at, &level_headroom);
-    judge_wire::put_floats(out, a, &[f.previous_0, f.previous_1])
-}
-
-fn put_patch(out: &mut [u8], at: usize, v: Voice) -> usize {
-    let patch = v.patch;
-    let row = v.row;
-    let plan = v.plan;
-    let a = judge_wire::put_bool(out, at, v.has_patch);
-    let b = judge_patches::put_patch(out, a, patch);
-    let c = judge_rows::put_six(out, b, row);
-    let d = judge_rows::put_plan(out, c, plan);
-    let e = judge_wire::put_bool(out, d, v.dirty);
-    judge_wire::put_bool(out, e, v.transposing)
-}
-
-fn put_operators(out: &mut [u8], at: usize, operator: [Operator; 6]) -> usize {
-    let mut place = at;
-    for i in 0..6 {
-        place = put_operator(out, place, operator[i]);
+pub fn put_voice(out: &mut Answer<'_>, v: &Voice) {
+    put_start(out, v);
+    for e in &v.operator_envelope {
+        judge_envelopes::put_envelope(out, e);
     }
-    place
-}
-
-fn put_operator(out: &mut [u8], at: usize, o: Operator) -> usize {
-    let a = judge_wire::put_word(out, at, o.phase);
-    judge_wire::put_float(out, a, o.amplitude)
-}
-
-fn put_envelopes(out: &mut [u8], at: usize, envelope: [Envelope; 6]) -> usize {
-    let mut place = at;
-    for i in 0..6 {
-        place = judge_envelopes::put_envelope(out, place, envelope[i]);
+    judge_envelopes::put_envelope(out, &v.pitch_envelope);
+    out.floats(&[v.normalized_velocity, v.note]);
+    for t in &v.ratios {
+        judge_units::put_ratio(out, t.ratio);
     }
-    place
+    out.floats(&v.level_headroom);
+    out.floats(&[v.feedback_state.previous_0, v.feedback_state.previous_1]);
+    out.flag(v.has_patch);
+    judge_patches::put_patch(out, &v.patch);
+    out.bytes(&v.row);
+    judge_rows::put_plan(out, &v.plan);
+    out.flag(v.dirty);
+    out.flag(v.transposing);
 }
 
-fn put_ratios(out: &mut [u8], at: usize, ratios: [Tuned; 6]) -> usize {
-    let mut place = at;
-    for i in 0..6 {
-        place = put_tuned(out, place, ratios[i]);
+fn put_start(out: &mut Answer<'_>, v: &Voice) {
+    out.word((v.operators % 0x1_0000_0000) as u32);
+    out.floats(&[v.sample_rate, v.one_hz, v.a0]);
+    out.flag(v.gate);
+    for o in &v.operator {
+        out.word(o.phase);
+        out.float(o.amplitude);
     }
-    place
-}
-
-fn put_marks(out: &mut [u8], at: usize, marks: [Marked; 6]) -> usize {
-    let mut place = at;
-    for i in 0..6 {
-        place = put_marked(out, place, marks[i]);
-    }
-    place
-}
-
-fn put_marked(out: &mut [u8], at: usize, m: Marked) -> usize {
-    let mark = m.mark;
-    judge_units::put_mark(out, at, mark)
-}
-
-fn put_tuned(out: &mut [u8], at: usize, t: Tuned) -> usize {
-    let ratio = t.ratio;
-    match ratio {
-        Ratio::Note(x) => put_ratio(out, at, false, x),
-        Ratio::Hertz(x) => put_ratio(out, at, true, x),
-    }
-}
-
-fn put_ratio(out: &mut [u8], at: usize, hertz: bool, x: f32) -> usize {
-    let a = judge_wire::put_bool(out, at, hertz);
-    judge_wire::put_float(out, a, x)
 }

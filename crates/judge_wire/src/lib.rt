@@ -1,187 +1,172 @@
-// The bytes of a script, of its answers and of the registers (docs/ORACLE.md): numbers of one to eight bytes, least
-// first. Past the end of what is read stand zeros, and past the end of what is written nothing is written.
+// The bytes of a script and of its answers (docs/ORACLE.md): numbers of one to eight bytes, least first. Past the end of
+// what is read stand zeros, and past the end of what is written nothing is written.
 #![tactic(auto)]
 
-ghost use Rattle.std.specs.Prelude.{◌≤◌};
+use refusals::{Refusal, Refused};
 
-// The registers are the states that live between calls, each as an answer writes it: where each begins, and how many
-// bytes they are together. The generator's number stands behind the LFO, as in the LFO's answers.
-pub const PATCH: u8 = 0;
-
-pub const ENVELOPE: u8 = 156;
-
-pub const LFO: u8 = 204;
-
-pub const GENERATOR: u8 = 250;
-
-pub const VOICE: u8 = 254;
-
-// The reader of a bank in pieces, which no answer writes: its count in eight bytes, its frame, its sum and whether it
-// has ended; and the 128 bytes of its buffer.
-pub const READER: usize = 921;
-
-pub const READER_BUFFER: usize = 932;
-
-pub const REGISTERS: usize = 1060;
-
-// The byte at a place.
-pub fn byte(s: &[u8], at: usize) -> u8 {
-    if at < s.len() { s[at] } else { 0 }
+// What is read: each method takes what it answers from the front.
+#[derive(Clone, Copy)]
+pub struct Fields<'a> {
+    rest: &'a [u8],
 }
 
-// The two bytes from a place on, as a number.
-pub fn half(s: &[u8], at: u32) -> u32 {
-    let place = at as usize;
-    let low = byte(s, place) as u32;
-    let high = byte(s, place + 1) as u32;
-    low + 256 * high
-}
-
-// The four bytes from a place on, as a number.
-pub fn word(s: &[u8], at: u32) -> u32 {
-    word_at(s, at as usize)
-}
-
-// The four bytes behind so many bytes from a place on, as a number.
-pub fn word_behind(s: &[u8], at: u8, size: u32) -> u32 {
-    word_at(s, at as usize + size as usize)
-}
-
-fn word_at(s: &[u8], place: usize) -> u32
-    requires { place ≤ 8589934592 }
-{
-    let b0 = byte(s, place) as u32;
-    let b1 = byte(s, place + 1) as u32;
-    let b2 = byte(s, place + 2) as u32;
-    let b3 = byte(s, place + 3) as u32;
-    b0 + 256 * b1 + 65536 * b2 + 16777216 * b3
-}
-
-// The eight bytes from a place on.
-pub fn eight(s: &[u8], at: u32) -> [u8; 8] {
-    let place = at as usize;
-    let b0 = byte(s, place);
-    let b1 = byte(s, place + 1);
-    let b2 = byte(s, place + 2);
-    let b3 = byte(s, place + 3);
-    let b4 = byte(s, place + 4);
-    let b5 = byte(s, place + 5);
-    let b6 = byte(s, place + 6);
-    let b7 = byte(s, place + 7);
-    [b0, b1, b2, b3, b4, b5, b6, b7]
-}
-
-// So many bytes from a place on; none where there are fewer.
-pub fn part<'a>(s: &'a [u8], at: u32, size: u32) -> &'a [u8] {
-    let start = at as usize;
-    let end = start + size as usize;
-    if end <= s.len() {
-        return &s[start..end];
+impl<'a> Fields<'a> {
+    pub fn new(bytes: &'a [u8]) -> Self {
+        Fields { rest: bytes }
     }
-    let none = 0usize;
-    &s[none..none]
-}
 
-// The first bytes, so many; none where there are fewer.
-pub fn start<'a>(s: &'a [u8], size: usize) -> &'a [u8] {
-    let first = 0usize;
-    if size <= s.len() {
-        return &s[first..size];
+    pub fn byte(&mut self) -> u8 {
+        let Some((first, rest)) = self.rest.split_first() else {
+            return 0;
+        };
+        self.rest = rest;
+        *first
     }
-    &s[first..first]
-}
 
-// The float whose bits are the four bytes from a place on.
-pub fn float(s: &[u8], at: u32) -> f32 {
-    numbers::f32_from_bits(word(s, at))
-}
-
-// The four floats from a place on.
-pub fn four(s: &[u8], place: u32) -> [f32; 4]
-    requires { place ≤ 65535 }
-{
-    let a = float(s, place);
-    let b = float(s, place + 4);
-    let c = float(s, place + 8);
-    let d = float(s, place + 12);
-    [a, b, c, d]
-}
-
-// The signed number in the four bytes from a place on.
-pub fn signed(s: &[u8], at: u32) -> i32 {
-    numbers::u32_as_i32(word(s, at))
-}
-
-// Writes one byte, and answers the place behind it.
-pub fn put_byte(out: &mut [u8], at: usize, b: u8) -> usize {
-    if at < out.len() {
-        out[at] = b;
-        return at + 1;
+    pub fn flag(&mut self) -> bool {
+        self.byte() != 0
     }
-    at
-}
 
-// Writes a number's lowest bytes, as many as `width` says, and answers the place behind them.
-pub fn put_number(out: &mut [u8], at: usize, n: u64, width: u32) -> usize {
-    let mut rest = n;
-    let mut place = at;
-    for _ in 0..width {
-        place = put_byte(out, place, (rest % 256) as u8);
-        rest /= 256;
+    pub fn bytes<const N: usize>(&mut self) -> [u8; N] {
+        let mut bytes = [0; N];
+        for b in bytes.iter_mut() {
+            *b = self.byte();
+        }
+        bytes
     }
-    place
-}
 
-// Writes a number of four bytes, and answers the place behind it.
-pub fn put_word(out: &mut [u8], at: usize, n: u32) -> usize {
-    put_number(out, at, n as u64, 4)
-}
-
-// Writes a float's bits, and answers the place behind them.
-pub fn put_float(out: &mut [u8], at: usize, x: f32) -> usize {
-    put_word(out, at, numbers::f32_to_bits(x))
-}
-
-// Writes some floats, and answers the place behind them.
-pub fn put_floats(out: &mut [u8], at: usize, x: &[f32]) -> usize {
-    let mut place = at;
-    for i in 0..x.len() {
-        place = put_float(out, place, x[i]);
+    pub fn half(&mut self) -> u16 {
+        u16::from_le_bytes(self.bytes())
     }
-    place
-}
 
-// Writes 1 for true and 0 for false, and answers the place behind it.
-pub fn put_bool(out: &mut [u8], at: usize, b: bool) -> usize {
-    if b {
-        return put_byte(out, at, 1);
+    pub fn word(&mut self) -> u32 {
+        u32::from_le_bytes(self.bytes())
     }
-    put_byte(out, at, 0)
-}
 
-// Writes some bytes, and answers the place behind them.
-pub fn put_bytes(out: &mut [u8], at: usize, bytes: &[u8]) -> usize {
-    let mut place = at;
-    for i in 0..bytes.len() {
-        place = put_byte(out, place, bytes[i]);
+    pub fn eight(&mut self) -> u64 {
+        u64::from_le_bytes(self.bytes())
     }
-    place
+
+    // A float by its bits.
+    pub fn float(&mut self) -> f32 {
+        numbers::f32_from_bits(self.word())
+    }
+
+    pub fn floats<const N: usize>(&mut self) -> [f32; N] {
+        let mut floats = [0.0; N];
+        for x in floats.iter_mut() {
+            *x = self.float();
+        }
+        floats
+    }
+
+    // So many bytes; none where there are fewer.
+    pub fn part(&mut self, size: usize) -> &'a [u8] {
+        if self.rest.len() < size {
+            return &self.rest[..0];
+        }
+        let (part, rest) = self.rest.split_at(size);
+        self.rest = rest;
+        part
+    }
+
+    // A slice, its length in two bytes first.
+    pub fn slice(&mut self) -> &'a [u8] {
+        let size = self.half();
+        self.part(size as usize)
+    }
 }
 
-// Writes a register's bytes, and answers the place behind them.
-pub fn put_register(out: &mut [u8], at: usize, registers: &[u8], from: u8, size: u8) -> usize {
-    put_bytes(out, at, part(registers, from as u32, size as u32))
+// What is written: each method puts its argument behind what stands there.
+#[derive(Drop)]
+pub struct Answer<'a> {
+    out: &'a mut [u8],
+    at: usize,
 }
 
-// Writes a slice, its length in two bytes first, and answers the place behind it.
-pub fn put_slice(out: &mut [u8], at: usize, bytes: &[u8]) -> usize {
-    let behind = put_number(out, at, bytes.len() as u64, 2);
-    put_bytes(out, behind, bytes)
-}
+impl<'a> Answer<'a> {
+    pub fn new(out: &'a mut [u8]) -> Self {
+        Answer { out, at: 0 }
+    }
 
-// Writes what stands before an answer: the entry's byte, and how many bytes follow up to `end`.
-pub fn put_head(out: &mut [u8], entry: u8, end: usize) {
-    put_byte(out, 0, entry);
-    let size = if end < 5 { 0 } else { end - 5 };
-    put_number(out, 1, size as u64, 4);
+    pub fn byte(&mut self, b: u8) {
+        if self.at < self.out.len() {
+            self.out[self.at] = b;
+            self.at += 1;
+        }
+    }
+
+    // 1 for true and 0 for false.
+    pub fn flag(&mut self, b: bool) {
+        self.byte(u8::from(b));
+    }
+
+    pub fn bytes(&mut self, bytes: &[u8]) {
+        for b in bytes {
+            self.byte(*b);
+        }
+    }
+
+    pub fn word(&mut self, n: u32) {
+        self.bytes(&n.to_le_bytes());
+    }
+
+    pub fn eight(&mut self, n: u64) {
+        self.bytes(&n.to_le_bytes());
+    }
+
+    // A float's bits.
+    pub fn float(&mut self, x: f32) {
+        self.word(numbers::f32_to_bits(x));
+    }
+
+    pub fn floats(&mut self, floats: &[f32]) {
+        for x in floats {
+            self.float(*x);
+        }
+    }
+
+    // The length of a slice, in two bytes.
+    pub fn length(&mut self, n: usize) {
+        self.bytes(&((n % 65536) as u16).to_le_bytes());
+    }
+
+    // A slice, its length first.
+    pub fn slice(&mut self, bytes: &[u8]) {
+        self.length(bytes.len());
+        self.bytes(bytes);
+    }
+
+    // The number of an answer, 0 for one that is no refusal; the answer is the state that a caller goes on with.
+    pub fn told<T>(&mut self, done: Result<T, Refused<T>>) -> T {
+        match done {
+            Ok(state) => {
+                self.byte(0);
+                state
+            }
+            Err(refused) => {
+                self.byte(refused.refusal.number());
+                refused.state
+            }
+        }
+    }
+
+    // The number of an answer likewise; the answer is its value, or zeros in its place.
+    pub fn value<T: Copy>(&mut self, done: Result<T, Refusal>, zeros: T) -> T {
+        match done {
+            Ok(value) => {
+                self.byte(0);
+                value
+            }
+            Err(refusal) => {
+                self.byte(refusal.number());
+                zeros
+            }
+        }
+    }
+
+    // How many bytes were written.
+    pub fn size(&self) -> usize {
+        self.at
+    }
 }

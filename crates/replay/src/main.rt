@@ -5,6 +5,7 @@
 
 ghost use Rattle.std.specs.Prelude.{◌≤◌, length};
 
+use calls::{Outcome, Registers};
 use std::io::Stdin;
 use streams::{Streams, Window};
 
@@ -32,26 +33,29 @@ struct Progress {
 }
 
 // Answers the whole calls of the script while the answers have room.
-fn answer_all(script: &[u8], registers: &mut [u8], answers: &mut [u8], before: u64) -> Progress
+fn answer_all(script: &[u8], registers: &mut Registers, answers: &mut [u8], before: u64) -> Progress
     ensures { (result.at ≤ length script.now) × (result.put ≤ length answers.old) }
 {
     let mut at: usize = 0;
     let mut put: usize = 0;
     let mut calls = before;
     while at < script.len() && ROOM <= answers.len() - put {
-        let one = calls::answer(&script[at..], registers, &mut answers[put..]);
-        let read = one.read;
-        if read == 0 {
-            return Progress {
-                at,
-                put,
-                calls,
-                unknown: one.unknown,
-            };
+        match calls::answer(&script[at..], registers, &mut answers[put..]) {
+            Outcome::Answered { read, wrote } => {
+                at += read.clamp(1, script.len() - at);
+                put += wrote.min(answers.len() - put);
+                calls = calls.wrapping_add(1);
+            }
+            Outcome::CutShort => break,
+            Outcome::Unknown => {
+                return Progress {
+                    at,
+                    put,
+                    calls,
+                    unknown: true,
+                };
+            }
         }
-        at += streams::least(read, script.len() - at);
-        put += streams::least(one.wrote, answers.len() - put);
-        calls = calls.wrapping_add(1);
     }
     Progress {
         at,
@@ -106,7 +110,7 @@ fn say_unknown(to: Streams, entry: u8, calls: u64) {
 // nothing is left or what is left is no whole call.
 fn is_over(to: Streams, script: &[u8], done: Progress, more: bool) -> bool {
     if done.unknown {
-        say_unknown(to, judge_wire::byte(script, done.at), done.calls);
+        say_unknown(to, script.get(done.at).copied().unwrap_or(0), done.calls);
         return true;
     }
     if more {
@@ -127,7 +131,7 @@ fn is_over(to: Streams, script: &[u8], done: Progress, more: bool) -> bool {
 fn answer_window(
     to: Streams,
     script: &[u8],
-    registers: &mut [u8],
+    registers: &mut Registers,
     answers: &mut [u8],
     w: Window,
     calls: u64,
@@ -158,13 +162,13 @@ fn turn(
     from: &mut Stdin,
     to: Streams,
     script: &mut [u8],
-    registers: &mut [u8],
+    registers: &mut Registers,
     answers: &mut [u8],
     run: Run,
 ) -> Run {
     match streams::refill(from, script, run.window) {
         Ok(w) => {
-            let held = judge_wire::start(script, w.end);
+            let held = script.get(..w.end).unwrap_or(&[]);
             answer_window(to, held, registers, answers, w, run.calls)
         }
         Err(error) => {
@@ -184,7 +188,7 @@ fn replay(
     from: &mut Stdin,
     to: Streams,
     script: &mut [u8],
-    registers: &mut [u8],
+    registers: &mut Registers,
     answers: &mut [u8],
 ) {
     let mut run = Run {
@@ -200,7 +204,6 @@ fn replay(
     }
 }
 
-// The registers at the start: all zero but the generator's number, which is the Rust's first one.
 fn main(rt: HostRuntime) {
     let to = Streams {
         out: rt.stdout(),
@@ -208,8 +211,7 @@ fn main(rt: HostRuntime) {
     };
     let mut script = [0u8; 65536];
     let mut answers = [0u8; 65536];
-    let mut registers = [0u8; judge_wire::REGISTERS];
-    judge_wire::put_word(&mut registers, judge_wire::GENERATOR as usize, 0x21);
+    let mut registers = Registers::new();
     replay(
         &mut rt.stdin(),
         to,
