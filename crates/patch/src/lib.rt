@@ -9,6 +9,7 @@ ghost use Rattle.patch.specs.Form.{envelope_with, scaling_with, operator_with, m
 ghost use Rattle.patch.specs.Packed.{read_in, unpacked, unpack_of};
 
 use refusals::{Refusal, Refused};
+use std::array;
 
 pub mod largest;
 
@@ -82,8 +83,7 @@ fn field(b: u8, unit: u8, size: u8, largest: u8) -> u8
     requires { (0 < unit) × (0 < size) }
     ensures { result ≡ min (b / unit % size) largest }
 {
-    let bits = b / unit % size;
-    if bits < largest { bits } else { largest }
+    (b / unit % size).min(largest)
 }
 
 // A number with a byte for itself.
@@ -169,32 +169,14 @@ fn unpack_modulations(s: &[u8]) -> ModulationParameters
     }
 }
 
-// A letter of the name.
-fn letter(s: &[u8], i: usize) -> u8
-    requires { i < length s.now }
-    ensures { result ≡ min (get_or s.now i 0 / 1 % 128) 127 }
-{
-    field(s[i], 1, 128, largest::LETTER)
-}
-
 fn unpack_name(s: &[u8]) -> [u8; 10]
     requires { 128 ≤ length s.now }
     ensures { result ≡ name_with (λ n. read_in s.now (field_of n)) }
 {
-    [
-        letter(s, 118),
-        letter(s, 119),
-        letter(s, 120),
-        letter(s, 121),
-        letter(s, 122),
-        letter(s, 123),
-        letter(s, 124),
-        letter(s, 125),
-        letter(s, 126),
-        letter(s, 127),
-    ]
+    array::from_fn(|i| field(s[118 + i], 1, 128, largest::LETTER))
 }
 
+// Stays: as `array::from_fn(|k| unpack_operator(s, 17 * k))` it got no proof, from structs of 21 numbers.
 fn unpack_operators(s: &[u8]) -> [Operator; 6]
     requires { 128 ≤ length s.now }
     ensures { result ≡ (unpacked s.now).op }

@@ -29,10 +29,14 @@ fn line(table: &[f32], place: f32) -> f32
     ensures { result ≡ line_at table.now place }
 {
     let integral = numbers::f32_as_usize(place);
-    match table.get(integral..) {
-        Some([a, b, ..]) => *a + (*b - *a) * (place - whole_part(place, integral)),
-        _ => table.last().copied().unwrap_or(f32::NAN),
-    }
+    let [before @ .., last] = table else {
+        return f32::NAN;
+    };
+    let Some(a) = before.get(integral) else {
+        return *last;
+    };
+    let b = table[integral + 1];
+    *a + (b - *a) * (place - whole_part(place, integral))
 }
 
 // A place's whole part as f32: from 2^24 on every f32 is whole, so it is the place itself.
