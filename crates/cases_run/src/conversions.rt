@@ -2,106 +2,73 @@
 // parameter.
 use crate::heading;
 use dx_units::{Converted, Level};
+use std::{fmt, io};
 use streams::Streams;
 
-// The end of a line, which begins with what was given.
-fn end(to: Streams, line: &mut [u8], at: usize) -> bool {
-    let n = streams::put(line, at, b"\n");
-    streams::write(to, line, n)
-}
-
-fn end_refused(to: Streams, line: &mut [u8], at: usize, number: u8) -> bool {
-    let a = streams::put(line, at, b" is refused with ");
-    let b = streams::put_decimal(line, a, number as u64);
-    end(to, line, b)
-}
-
-fn put_sign(line: &mut [u8], at: usize, x: f32) -> usize {
-    if x < 0.0 {
-        return streams::put(line, at, b"-");
-    }
-    at
-}
-
 // A float in millionths, cut; a NaN by name.
-fn put_millionths(line: &mut [u8], at: usize, x: f32) -> usize {
-    if x != x {
-        return streams::put(line, at, b"NaN");
+#[derive(Clone, Copy)]
+struct Millionths(f32);
+
+impl fmt::Display for Millionths {
+    fn fmt<W: fmt::Write>(&self, f: &mut fmt::Formatter<W>) -> fmt::Result {
+        let x = self.0;
+        if x.is_nan() {
+            return f.write_str("NaN");
+        }
+        let sign = if x < 0.0 { "-" } else { "" };
+        let n = numbers::f32_as_u32(numbers::f32_abs(x) * 1000000.0);
+        write!(f, "{sign}{n} millionths")
     }
-    let a = put_sign(line, at, x);
-    let n = numbers::f32_as_u32(numbers::f32_abs(x) * 1000000.0);
-    let b = streams::put_decimal(line, a, n as u64);
-    streams::put(line, b, b" millionths")
 }
 
-fn end_answer(to: Streams, line: &mut [u8], at: usize, answer: Converted) -> bool {
+fn answer<D: fmt::Display + Copy>(to: Streams, given: D, answer: Converted) -> io::Result<()> {
     match answer {
         Converted::Value(x) => {
-            let a = streams::put(line, at, b" is ");
-            let b = put_millionths(line, a, x);
-            end(to, line, b)
+            let millionths = Millionths(x);
+            streams::print_line(to, b"", format_args!("{given} is {millionths}"))
         }
-        Converted::Refused(number) => end_refused(to, line, at, number),
+        Converted::Refused(number) => refused(to, given, number),
     }
 }
 
-fn end_level(to: Streams, line: &mut [u8], at: usize, answer: Level) -> bool {
-    match answer {
-        Level::Value(v) => {
-            let a = streams::put(line, at, b" is ");
-            let b = streams::put_decimal(line, a, v as u64);
-            end(to, line, b)
-        }
-        Level::Refused(number) => end_refused(to, line, at, number),
+fn refused<D: fmt::Display + Copy>(to: Streams, given: D, number: u8) -> io::Result<()> {
+    streams::print_line(to, b"", format_args!("{given} is refused with {number}"))
+}
+
+fn level(to: Streams, n: u8) -> io::Result<()> {
+    let given = format_args!("level {n}");
+    match dx_units::operator_level(n) {
+        Level::Value(v) => streams::print_line(to, b"", format_args!("{given} is {v}")),
+        Level::Refused(number) => refused(to, given, number),
     }
 }
 
-fn level(to: Streams, going: bool, n: u8) -> bool {
-    if !going {
-        return false;
-    }
-    let mut line = [0u8; 128];
-    let a = streams::put(&mut line, 0, b"level ");
-    let b = streams::put_decimal(&mut line, a, n as u64);
-    end_level(to, &mut line, b, dx_units::operator_level(n))
+fn octaves(to: Streams, n: u8) -> io::Result<()> {
+    answer(
+        to,
+        format_args!("pitch level {n}"),
+        dx_units::pitch_envelope_level(n),
+    )
 }
 
-fn octaves(to: Streams, going: bool, n: u8) -> bool {
-    if !going {
-        return false;
-    }
-    let mut line = [0u8; 128];
-    let a = streams::put(&mut line, 0, b"pitch level ");
-    let b = streams::put_decimal(&mut line, a, n as u64);
-    end_answer(to, &mut line, b, dx_units::pitch_envelope_level(n))
+fn scaling(to: Streams, n: u8, note: f32) -> io::Result<()> {
+    let millionths = Millionths(note);
+    answer(
+        to,
+        format_args!("rate scaling {n} at note {millionths}"),
+        dx_units::rate_scaling(note, n),
+    )
 }
 
-fn scaling(to: Streams, going: bool, n: u8, note: f32) -> bool {
-    if !going {
-        return false;
-    }
-    let mut line = [0u8; 128];
-    let a = streams::put(&mut line, 0, b"rate scaling ");
-    let b = streams::put_decimal(&mut line, a, n as u64);
-    let c = streams::put(&mut line, b, b" at note ");
-    let d = put_millionths(&mut line, c, note);
-    end_answer(to, &mut line, d, dx_units::rate_scaling(note, n))
-}
-
-fn scalings(to: Streams, going: bool) -> bool {
-    let nan = 0.0 / 0.0;
-    let a = scaling(to, going, 0, 127.0);
-    let b = scaling(to, a, 0, 127.5);
-    let c = scaling(to, b, 0, nan);
-    scaling(to, c, 8, nan)
-}
-
-pub fn run(to: Streams, going: bool) -> bool {
-    let a = heading(to, going, b"conversions");
-    let b = level(to, a, 99);
-    let c = level(to, b, 100);
-    let d = octaves(to, c, 18);
-    let e = octaves(to, d, 50);
-    let f = octaves(to, e, 82);
-    scalings(to, f)
+pub fn run(to: Streams) -> io::Result<()> {
+    heading(to, "conversions")?;
+    level(to, 99)?;
+    level(to, 100)?;
+    octaves(to, 18)?;
+    octaves(to, 50)?;
+    octaves(to, 82)?;
+    scaling(to, 0, 127.0)?;
+    scaling(to, 0, 127.5)?;
+    scaling(to, 0, f32::NAN)?;
+    scaling(to, 8, f32::NAN)
 }

@@ -2,24 +2,16 @@
 // sample-and-hold sequence. A worker plays its own LFO for a while, and then the patch that is to be
 // identified, with the generator's number 21 (hex); the draws are printed by their bits.
 use crate::heading;
-use lfo_inner::Lfo;
+use lfo_inner::Motion;
 use patch::ModulationParameters;
-use streams::Streams;
-
-// An LFO and the generator's number.
-#[derive(Clone, Copy)]
-struct Playing {
-    lfo: Lfo,
-    state: u32,
-}
+use std::io;
+use streams::{Line, Streams};
 
 // The number that every identification starts from.
 const START: u32 = 0x21;
 
 // Set to a rate and a wave, at 48,000 Hz.
-fn ready(rate: u8, waveform: u8, state: u32) -> Playing {
-    let made = lfo::init(48000.0);
-    let fresh = made.lfo;
+fn ready(rate: u8, waveform: u8, state: u32) -> Motion {
     let modulations = ModulationParameters {
         delay: 0,
         rate,
@@ -29,80 +21,44 @@ fn ready(rate: u8, waveform: u8, state: u32) -> Playing {
         waveform,
         pitch_mod_sensitivity: 3,
     };
-    let set = lfo::set(fresh, modulations);
-    let started = lfo::reset(set.lfo);
-    let ours = started.lfo;
-    Playing { lfo: ours, state }
+    let set = lfo::set(lfo::init(48000.0).lfo, modulations);
+    Motion {
+        lfo: lfo::reset(set.lfo).lfo,
+        state,
+    }
 }
 
-fn stepped(p: Playing) -> Playing {
-    let state = p.state;
-    let from = p.lfo;
-    let moved = lfo::step(from, state, 64.0);
-    let to = moved.lfo;
-    Playing {
-        lfo: to,
+fn stepped(p: Motion) -> Motion {
+    let moved = lfo::step(p.lfo, p.state, 64.0);
+    Motion {
+        lfo: moved.lfo,
         state: moved.state,
     }
 }
 
 // Some blocks of 64 samples.
-fn played(p: Playing, blocks: u32) -> Playing {
-    let mut now = p;
-    for _ in 0..blocks {
-        now = stepped(now);
-    }
-    now
+fn played(p: Motion, blocks: u32) -> Motion {
+    (0..blocks).fold(p, |now, _| stepped(now))
 }
 
-// Sixteen blocks more.
-fn more(p: Playing) -> Playing {
-    played(p, 16)
-}
-
-// The draw that is held.
-fn put_draw(line: &mut [u8], at: usize, p: Playing) -> usize {
-    let a = streams::put(line, at, b" ");
-    let lfo = p.lfo;
-    streams::put_hex(line, a, numbers::f32_to_bits(lfo.value) as u64, 8)
-}
-
-// The patch that is to be identified: the fastest sample and hold, four draws.
-fn put_draws(line: &mut [u8], at: usize) -> usize {
-    let first = more(ready(99, 5, START));
-    let second = more(first);
-    let third = more(second);
-    let fourth = more(third);
-    let a = put_draw(line, at, first);
-    let b = put_draw(line, a, second);
-    let c = put_draw(line, b, third);
-    put_draw(line, c, fourth)
-}
-
-// What a worker played before, the number that its generator had then, and the draws.
-fn worker(to: Streams, going: bool, name: &[u8], rate: u8, waveform: u8, blocks: u32) -> bool {
-    if !going {
-        return false;
-    }
+// What a worker played before, the number that its generator had then, and four draws of the patch that is to be
+// identified, the fastest sample and hold, sixteen blocks apart.
+fn worker(to: Streams, name: &str, rate: u8, waveform: u8, blocks: u32) -> io::Result<()> {
     let before = played(ready(rate, waveform, START), blocks);
-    let mut line = [0u8; 128];
-    let a = streams::put(&mut line, 0, name);
-    let b = streams::put_hex(&mut line, a, before.state as u64, 8);
-    let c = streams::put(&mut line, b, b", draws");
-    let d = put_draws(&mut line, c);
-    let e = streams::put(&mut line, d, b"\n");
-    streams::write(to, &line, e)
+    let number = before.state;
+    let mut line = Line::led_by(b"");
+    line.put(format_args!("{name}{number:08x}, draws"));
+    let mut now = ready(99, 5, START);
+    for _ in 0..4 {
+        now = played(now, 16);
+        let draw = numbers::f32_to_bits(now.lfo.value);
+        line.put(format_args!(" {draw:08x}"));
+    }
+    line.print(to)
 }
 
-pub fn run(to: Streams, going: bool) -> bool {
-    let a = heading(to, going, b"LFOs");
-    let b = worker(to, a, b"worker 1 played a triangle, number ", 40, 0, 100);
-    worker(
-        to,
-        b,
-        b"worker 2 played a sample and hold, number ",
-        90,
-        5,
-        777,
-    )
+pub fn run(to: Streams) -> io::Result<()> {
+    heading(to, "LFOs")?;
+    worker(to, "worker 1 played a triangle, number ", 40, 0, 100)?;
+    worker(to, "worker 2 played a sample and hold, number ", 90, 5, 777)
 }

@@ -1,6 +1,5 @@
 // The library's cases that are run and not proved, topic by topic, and the registry's old fault, shown gone. Each
-// topic has a heading and a line for each case: what was given, and what came back. Each function is told whether
-// every line before it was written, writes nothing where one was not, and says how it was with its own.
+// topic has a heading and a line for each case: what was given, and what came back.
 #![tactic(auto)]
 
 mod conversions;
@@ -10,23 +9,25 @@ mod plans;
 mod texts;
 mod voices;
 
+use std::io;
 use streams::Streams;
 
-// A text and a number, if nothing went wrong before.
-fn line(to: Streams, going: bool, text: &[u8], n: u64) -> bool {
-    if !going {
-        return false;
-    }
-    let mut digits = [0u8; 20];
-    let k = streams::decimal(n, &mut digits);
-    streams::print_line(to, b"", text, &digits[..k])
+// What was given, and a number that came back.
+fn line(to: Streams, text: &str, n: u64) -> io::Result<()> {
+    streams::print_line(to, b"", format_args!("{text}{n}"))
 }
 
-fn heading(to: Streams, going: bool, text: &[u8]) -> bool {
-    if !going {
-        return false;
-    }
-    streams::print_line(to, b"", b"# ", text)
+fn heading(to: Streams, text: &str) -> io::Result<()> {
+    streams::print_line(to, b"", format_args!("# {text}"))
+}
+
+fn run(to: Streams) -> io::Result<()> {
+    patches::run(to)?;
+    conversions::run(to)?;
+    plans::run(to)?;
+    lfos::run(to)?;
+    voices::run(to)?;
+    texts::run(to)
 }
 
 fn main(rt: HostRuntime) {
@@ -34,10 +35,7 @@ fn main(rt: HostRuntime) {
         out: rt.stdout(),
         err: rt.stderr(),
     };
-    let a = patches::run(to, true);
-    let b = conversions::run(to, a);
-    let c = plans::run(to, b);
-    let d = lfos::run(to, c);
-    let e = voices::run(to, d);
-    texts::run(to, e);
+    if let Err(error) = run(to) {
+        streams::fail(to, "standard output", &error);
+    }
 }

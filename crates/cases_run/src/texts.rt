@@ -1,29 +1,21 @@
 // The text of every number's refusal, and of numbers that have none.
 use crate::heading;
-use streams::Streams;
+use std::io;
+use streams::{Line, Streams};
 
-fn text(to: Streams, going: bool, number: u8) -> bool {
-    if !going {
-        return false;
-    }
-    let mut out = [0u8; 96];
-    let a = streams::put_refusal(&mut out, 0, number);
-    let b = streams::put(&mut out, a, b"\n");
-    streams::write(to, &out, b)
+fn text(to: Streams, number: u8) -> io::Result<()> {
+    let mut out = [0u8; refusals::ROOM];
+    let size = refusals::text(number, &mut out);
+    let mut line = Line::led_by(b"");
+    line.push(out.get(..size).unwrap_or(&[]));
+    line.print(to)
 }
 
-fn texts_below(to: Streams, going: bool, numbers: u8) -> bool {
-    for number in 0..numbers {
-        if !text(to, going, number) {
-            return false;
-        }
+pub fn run(to: Streams) -> io::Result<()> {
+    heading(to, "texts of refusals")?;
+    for number in 0..15 {
+        text(to, number)?;
     }
-    going
-}
-
-pub fn run(to: Streams, going: bool) -> bool {
-    let a = heading(to, going, b"texts of refusals");
-    let b = texts_below(to, a, 15);
-    let c = text(to, b, 99);
-    text(to, c, 255)
+    text(to, 99)?;
+    text(to, 255)
 }

@@ -1,8 +1,9 @@
 // Voices: what was given, and what came back.
 use crate::{heading, line};
-use dx_units_step::{Mark, Marked};
+use dx_units_step::Mark;
 use patch::Patch;
-use streams::Streams;
+use std::io;
+use streams::{Line, Streams};
 use voice::Voice;
 use voice_render::{Rendered, VoiceParameters};
 
@@ -50,90 +51,76 @@ fn high() -> Voice {
     loaded(&packed)
 }
 
-fn started(to: Streams, going: bool, text: &[u8], operators: usize, sample_rate: f32) -> bool {
-    line(
-        to,
-        going,
-        text,
-        voice::init(operators, sample_rate).number as u64,
-    )
+fn started(to: Streams, text: &str, operators: usize, sample_rate: f32) -> io::Result<()> {
+    line(to, text, voice::init(operators, sample_rate).number as u64)
 }
 
-fn starts(to: Streams, going: bool) -> bool {
-    let a = started(to, going, b"six operators at 48000: ", 6, 48000.0);
-    let b = started(to, a, b"five operators at 7999: ", 5, 7999.0);
-    started(to, b, b"six operators at 7999: ", 6, 7999.0)
+fn starts(to: Streams) -> io::Result<()> {
+    started(to, "six operators at 48000: ", 6, 48000.0)?;
+    started(to, "five operators at 7999: ", 5, 7999.0)?;
+    started(to, "six operators at 7999: ", 6, 7999.0)
 }
 
 // The easy slip: a blank block does not record the gate.
-fn gates(to: Streams, going: bool) -> bool {
+fn gates(to: Streams) -> io::Result<()> {
     let mut block = [0.0f32; 8];
     let blank = voice_render::render(dirty(), parameters(60.0), &mut block);
     let v = blank.voice;
     let sounding = voice_render::render(v, parameters(60.0), &mut block);
     let w = sounding.voice;
-    let a = line(to, going, b"gate after a blank block: ", v.gate as u64);
-    line(to, a, b"gate after a sounding block: ", w.gate as u64)
+    line(to, "gate after a blank block: ", v.gate as u64)?;
+    line(to, "gate after a sounding block: ", w.gate as u64)
 }
 
-fn rendered(to: Streams, going: bool, text: &[u8], note: f32, block: &mut [f32]) -> bool {
+fn rendered(to: Streams, text: &str, note: f32, block: &mut [f32]) -> io::Result<()> {
     line(
         to,
-        going,
         text,
         voice_render::render(dirty(), parameters(note), block).number as u64,
     )
 }
 
-fn blocks(to: Streams, going: bool) -> bool {
+fn blocks(to: Streams) -> io::Result<()> {
     let mut two = [0.0f32; 2];
     let mut five = [0.0f32; 5];
     let mut most = [0.0f32; 4096];
     let mut more = [0.0f32; 4100];
-    let a = rendered(to, going, b"block of no numbers: ", 60.0, &mut two[..0]);
-    let b = rendered(to, a, b"block of 5 numbers: ", 60.0, &mut five);
-    let c = rendered(to, b, b"block of 4096 numbers: ", 60.0, &mut most);
-    rendered(to, c, b"block of 4100 numbers: ", 60.0, &mut more)
+    rendered(to, "block of no numbers: ", 60.0, &mut two[..0])?;
+    rendered(to, "block of 5 numbers: ", 60.0, &mut five)?;
+    rendered(to, "block of 4096 numbers: ", 60.0, &mut most)?;
+    rendered(to, "block of 4100 numbers: ", 60.0, &mut more)
 }
 
 // A mark's digit: 0 as asked, 1 held at the top, 2 held at zero.
-fn digit(m: Marked) -> u8 {
-    let mark = m.mark;
+fn digit(mark: Mark) -> char {
     match mark {
-        Mark::AsAsked => b'0',
-        Mark::HeldAtTop => b'1',
-        Mark::HeldAtZero => b'2',
+        Mark::AsAsked => '0',
+        Mark::HeldAtTop => '1',
+        Mark::HeldAtZero => '2',
     }
 }
 
-fn marked(to: Streams, going: bool, text: &[u8], r: Rendered) -> bool {
-    if !going {
-        return false;
+fn marked(to: Streams, text: &str, r: Rendered) -> io::Result<()> {
+    let mut line = Line::led_by(b"");
+    line.put(text);
+    for m in r.marks {
+        line.put(digit(m.mark));
     }
-    let m = r.marks;
-    let digits = [
-        digit(m[0]),
-        digit(m[1]),
-        digit(m[2]),
-        digit(m[3]),
-        digit(m[4]),
-        digit(m[5]),
-    ];
-    streams::print_line(to, b"", text, &digits)
+    line.print(to)
 }
 
 // At note 100 and 48,000 Hz 31 times the frequency is above half the sample rate.
-fn marks(to: Streams, going: bool) -> bool {
+fn marks(to: Streams) -> io::Result<()> {
     let mut block = [0.0f32; 8];
     let blank = voice_render::render(high(), parameters(100.0), &mut block);
     let v = blank.voice;
-    let a = marked(to, going, b"marks of a blank block: ", blank);
+    marked(to, "marks of a blank block: ", blank)?;
     let sounding = voice_render::render(v, parameters(100.0), &mut block);
-    let b = marked(to, a, b"marks of a sounding block: ", sounding);
+    marked(to, "marks of a sounding block: ", sounding)?;
     let refused = voice_render::render(v, parameters(128.0), &mut block);
-    let c = marked(to, b, b"marks of a refused block: ", refused);
+    marked(to, "marks of a refused block: ", refused)?;
     let empty = voice_render::render(v, parameters(100.0), &mut block[..0]);
-    marked(to, c, b"marks of an empty block: ", empty)
+    marked(to, "marks of an empty block: ", empty)
 }
 
 // A voice whose patch has a transpose, its switch on or off.
@@ -146,92 +133,81 @@ fn transposing(transpose: u8, on: bool) -> Voice {
 }
 
 // The note that a voice has after a blank block and a sounding one.
-fn played(to: Streams, going: bool, text: &[u8], v: Voice, note: f32) -> bool {
+fn played(to: Streams, text: &str, v: Voice, note: f32) -> io::Result<()> {
     let mut block = [0.0f32; 8];
     let blank = voice_render::render(v, parameters(note), &mut block);
     let w = blank.voice;
     let sounding = voice_render::render(w, parameters(note), &mut block);
     let x = sounding.voice;
-    line(to, going, text, numbers::f32_as_u32(x.note) as u64)
+    line(to, text, numbers::f32_as_u32(x.note) as u64)
 }
 
 // The number of a blank block.
-fn asked(to: Streams, going: bool, text: &[u8], v: Voice, note: f32) -> bool {
+fn asked(to: Streams, text: &str, v: Voice, note: f32) -> io::Result<()> {
     let mut block = [0.0f32; 8];
     line(
         to,
-        going,
         text,
         voice_render::render(v, parameters(note), &mut block).number as u64,
     )
 }
 
 // The shifted note at the ends of its range, and one step beyond each.
-fn transposes(to: Streams, going: bool) -> bool {
+fn transposes(to: Streams) -> io::Result<()> {
     let low = transposing(0, true);
     let high = transposing(48, true);
     let taken = voice::take_patch(high);
     let none = taken.voice;
-    let a = played(
+    played(
         to,
-        going,
-        b"transpose 36, switch off, note 60 plays: ",
+        "transpose 36, switch off, note 60 plays: ",
         transposing(36, false),
         60.0,
-    );
-    let b = played(
+    )?;
+    played(
         to,
-        a,
-        b"transpose 36, switch on, note 60 plays: ",
+        "transpose 36, switch on, note 60 plays: ",
         transposing(36, true),
         60.0,
-    );
-    let c = asked(to, b, b"transpose 0, switch on, note 24: ", low, 24.0);
-    let d = asked(
-        to,
-        c,
-        b"transpose 0, switch on, note 23.999998: ",
-        low,
-        23.999998,
-    );
-    let e = asked(to, d, b"transpose 48, switch on, note 103: ", high, 103.0);
-    let f = asked(
-        to,
-        e,
-        b"transpose 48, switch on, note 103.00001: ",
-        high,
-        103.00001,
-    );
+    )?;
+    asked(to, "transpose 0, switch on, note 24: ", low, 24.0)?;
     asked(
         to,
-        f,
-        b"no patch, switch on, note 103.00001: ",
-        none,
+        "transpose 0, switch on, note 23.999998: ",
+        low,
+        23.999998,
+    )?;
+    asked(to, "transpose 48, switch on, note 103: ", high, 103.0)?;
+    asked(
+        to,
+        "transpose 48, switch on, note 103.00001: ",
+        high,
         103.00001,
-    )
+    )?;
+    asked(to, "no patch, switch on, note 103.00001: ", none, 103.00001)
 }
 
-fn taken_out(to: Streams, going: bool, text: &[u8], v: Voice) -> bool {
-    line(to, going, text, voice::take_patch(v).number as u64)
+fn taken_out(to: Streams, text: &str, v: Voice) -> io::Result<()> {
+    line(to, text, voice::take_patch(v).number as u64)
 }
 
-fn refusals(to: Streams, going: bool) -> bool {
+fn refusals(to: Streams) -> io::Result<()> {
     let mut block = [0.0f32; 8];
     let v = dirty();
     let mut clean = v;
     clean.has_patch = false;
     clean.dirty = false;
-    let a = rendered(to, going, b"note 128: ", 128.0, &mut block);
-    let b = taken_out(to, a, b"taking the patch out: ", v);
-    taken_out(to, b, b"clean without a patch: ", clean)
+    rendered(to, "note 128: ", 128.0, &mut block)?;
+    taken_out(to, "taking the patch out: ", v)?;
+    taken_out(to, "clean without a patch: ", clean)
 }
 
-pub fn run(to: Streams, going: bool) -> bool {
-    let a = heading(to, going, b"voices");
-    let b = starts(to, a);
-    let c = gates(to, b);
-    let d = blocks(to, c);
-    let e = marks(to, d);
-    let f = transposes(to, e);
-    refusals(to, f)
+pub fn run(to: Streams) -> io::Result<()> {
+    heading(to, "voices")?;
+    starts(to)?;
+    gates(to)?;
+    blocks(to)?;
+    marks(to)?;
+    transposes(to)?;
+    refusals(to)
 }

@@ -3,6 +3,8 @@
 // wrong length.
 #![tactic(auto)]
 
+use std::io;
+use std::io::Write;
 use streams::Streams;
 
 // The refusal in words. 3 and 4 name their operator, 2 names none.
@@ -19,12 +21,12 @@ fn tell_if_refused(to: Streams, bytes: &[u8]) {
 }
 
 // The plan of a row, and in words why it is refused.
-fn print(to: Streams, row: &[u8]) {
+fn print(to: Streams, row: &[u8]) -> io::Result<()> {
     let mut out = [0u8; 160];
     let n = plan_text::print(row, &mut out);
-    if streams::write(to, &out, n) {
-        tell_if_refused(to, row);
-    }
+    to.out.write_all(out.get(..n).unwrap_or(&[]))?;
+    tell_if_refused(to, row);
+    Ok(())
 }
 
 fn main(rt: HostRuntime) {
@@ -34,7 +36,11 @@ fn main(rt: HostRuntime) {
     };
     let mut bytes = [0u8; 8];
     match streams::read_full(&mut rt.stdin(), &mut bytes) {
-        Ok(got) => print(to, &bytes[..got]),
-        Err(error) => streams::fail(to, b"standard input", &error),
+        Ok(got) => {
+            if let Err(error) = print(to, &bytes[..got]) {
+                streams::fail(to, "standard output", &error);
+            }
+        }
+        Err(error) => streams::fail(to, "standard input", &error),
     }
 }

@@ -5,8 +5,9 @@
 #![tactic(auto)]
 
 use bank_pieces::{Receiver, Taken};
+use std::io;
 use std::io::Stdin;
-use streams::{Streams, Window};
+use streams::{Columns, Streams, Window};
 
 // How far a run has come: the window over standard input, the reader of the dump, and whether it goes on.
 #[derive(Clone, Copy)]
@@ -18,93 +19,81 @@ struct Run {
 
 // The name of a packed patch, its letters as they stand.
 fn name(p: &[u8; 128]) -> [u8; 10] {
-    [
-        p[118], p[119], p[120], p[121], p[122], p[123], p[124], p[125], p[126], p[127],
-    ]
+    let mut name = [0; 10];
+    name.copy_from_slice(&p[118..]);
+    name
 }
 
-// The line of a patch that is complete. The answer says whether to go on.
-fn print_if_complete(to: Streams, t: Taken, patch: &[u8; 128]) -> bool {
+// The line of a patch that is complete.
+fn print_if_complete(to: Streams, t: Taken, patch: &[u8; 128]) -> io::Result<()> {
     if !t.complete {
-        return true;
+        return Ok(());
     }
-    let columns = streams::patch_columns(t.slot as usize, name(patch));
-    streams::print_line(to, b"", &columns, b"provisional")
+    let columns = Columns {
+        slot: t.slot as usize,
+        name: name(patch),
+    };
+    streams::print_line(to, b"", format_args!("{columns}provisional"))
 }
 
 // What waits, up to the end of the patch at hand. The reader has not ended, so it takes at least a byte.
-fn take(to: Streams, buffer: &[u8], patch: &mut [u8; 128], run: Run) -> Run {
-    let mut window = run.window;
-    let t = bank_pieces::take(run.receiver, streams::waiting(buffer, window), patch);
-    window.at = window.at.wrapping_add(t.taken);
-    let receiver = t.receiver;
-    Run {
-        window,
-        receiver,
-        going: print_if_complete(to, t, patch),
-    }
+fn take(to: Streams, buffer: &[u8], patch: &mut [u8; 128], run: &mut Run) -> io::Result<()> {
+    let t = bank_pieces::take(run.receiver, run.window.waiting(buffer), patch);
+    run.window.at = run.window.at.saturating_add(t.taken);
+    run.receiver = t.receiver;
+    print_if_complete(to, t, patch)
 }
 
 // Whether the dump was sound.
-fn say_end(to: Streams, receiver: Receiver) {
+fn say_end(to: Streams, receiver: Receiver) -> io::Result<()> {
     let e = bank_pieces::end(receiver);
     if e.number != 0 {
         streams::tell_refusal(to, b"", b"", e.number);
-        return;
+        return Ok(());
     }
-    let mut digits = [0u8; 20];
-    let k = streams::decimal(e.channel as u64, &mut digits);
-    streams::print_line(to, b"", b"sound, channel ", &digits[..k]);
+    let channel = e.channel;
+    streams::print_line(to, b"", format_args!("sound, channel {channel}"))
 }
 
 // One read. A failed one is told, and where nothing more came the dump is over.
-fn read(from: &mut Stdin, to: Streams, buffer: &mut [u8], run: Run) -> Run {
-    let receiver = run.receiver;
-    match streams::refill(from, buffer, run.window) {
+fn read(from: &mut Stdin, to: Streams, buffer: &mut [u8], run: &mut Run) -> io::Result<()> {
+    match run.window.refill(from, buffer) {
         Ok(window) => {
+            run.window = window;
             if window.ended {
-                say_end(to, receiver);
-            }
-            Run {
-                window,
-                receiver,
-                going: !window.ended,
+                run.going = false;
+                return say_end(to, run.receiver);
             }
         }
         Err(error) => {
-            streams::fail(to, b"standard input", &error);
-            Run {
-                window: run.window,
-                receiver,
-                going: false,
-            }
+            streams::fail(to, "standard input", &error);
+            run.going = false;
         }
     }
+    Ok(())
 }
 
-// A patch of what waits, or a read where nothing does.
-fn turn(from: &mut Stdin, to: Streams, buffer: &mut [u8], patch: &mut [u8; 128], run: Run) -> Run {
-    let window = run.window;
-    if window.at < window.end {
-        return take(to, buffer, patch, run);
-    }
-    read(from, to, buffer, run)
-}
-
-// Turns until the dump is over. Nothing says that the input ends, so turns are counted, up to a number that no run
-// comes to.
-fn receive(from: &mut Stdin, to: Streams, buffer: &mut [u8], patch: &mut [u8; 128]) {
+// Turns until the dump is over: a patch of what waits, or a read where nothing does. Nothing says that the input ends,
+// so turns are counted, up to a number that no run comes to.
+fn receive(from: &mut Stdin, to: Streams) -> io::Result<()> {
+    let mut buffer = [0u8; 4096];
+    let mut patch = [0u8; 128];
     let mut run = Run {
-        window: streams::closed(),
+        window: Window::default(),
         receiver: bank_pieces::open(),
         going: true,
     };
     for _ in 0..u64::MAX {
         if !run.going {
-            return;
+            break;
         }
-        run = turn(from, to, buffer, patch, run);
+        if run.window.at < run.window.end {
+            take(to, &buffer, &mut patch, &mut run)?;
+        } else {
+            read(from, to, &mut buffer, &mut run)?;
+        }
     }
+    Ok(())
 }
 
 fn main(rt: HostRuntime) {
@@ -112,7 +101,7 @@ fn main(rt: HostRuntime) {
         out: rt.stdout(),
         err: rt.stderr(),
     };
-    let mut buffer = [0u8; 4096];
-    let mut patch = [0u8; 128];
-    receive(&mut rt.stdin(), to, &mut buffer, &mut patch);
+    if let Err(error) = receive(&mut rt.stdin(), to) {
+        streams::fail(to, "standard output", &error);
+    }
 }

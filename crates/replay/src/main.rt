@@ -6,7 +6,9 @@
 ghost use Rattle.std.specs.Prelude.{◌≤◌, length};
 
 use calls::{Outcome, Registers};
-use std::io::Stdin;
+use std::fmt::Display;
+use std::io;
+use std::io::{Stdin, Write};
 use streams::{Streams, Window};
 
 mod calls;
@@ -65,66 +67,35 @@ fn answer_all(script: &[u8], registers: &mut Registers, answers: &mut [u8], befo
     }
 }
 
-// The line that a text and the number of a call make.
-fn put_line(line: &mut [u8], text: &[u8], at: usize, calls: u64) -> usize {
-    let a = streams::put(line, at, text);
-    let b = streams::put_decimal(line, a, calls);
-    streams::put(line, b, b"\n")
-}
-
 // The last line of a script that ended as it should not, on both streams.
-fn say_wrong(to: Streams, line: &[u8], n: usize) {
-    if streams::write(to, line, n) {
-        streams::tell(to, line, n);
-    }
-}
-
-fn say_ended(to: Streams, calls: u64) {
-    let mut line = [0u8; 80];
-    let a = streams::put(&mut line, 0, b"script ended after ");
-    let b = streams::put_decimal(&mut line, a, calls);
-    let c = streams::put(&mut line, b, b" calls\n");
-    streams::write(to, &line, c);
-}
-
-fn say_cut_short(to: Streams, calls: u64) {
-    let mut line = [0u8; 80];
-    let n = put_line(
-        &mut line,
-        b"script cut short in call ",
-        0,
-        calls.wrapping_add(1),
-    );
-    say_wrong(to, &line, n);
-}
-
-fn say_unknown(to: Streams, entry: u8, calls: u64) {
-    let mut line = [0u8; 80];
-    let a = streams::put(&mut line, 0, b"script names unknown entry ");
-    let b = streams::put_decimal(&mut line, a, entry as u64);
-    let n = put_line(&mut line, b" in call ", b, calls.wrapping_add(1));
-    say_wrong(to, &line, n);
+fn say_wrong<D: Display + Copy>(to: Streams, text: D) -> io::Result<()> {
+    streams::print_line(to, b"", text)?;
+    streams::tell_line(to, b"", text);
+    Ok(())
 }
 
 // Whether the run is over, which is then said: the next call names no entry, or nothing more was read and either
 // nothing is left or what is left is no whole call.
-fn is_over(to: Streams, script: &[u8], done: Progress, more: bool) -> bool {
+fn is_over(to: Streams, script: &[u8], done: Progress, more: bool) -> io::Result<bool> {
+    let calls = done.calls;
+    let call = calls.wrapping_add(1);
     if done.unknown {
-        say_unknown(to, script.get(done.at).copied().unwrap_or(0), done.calls);
-        return true;
+        let entry = script.get(done.at).copied().unwrap_or(0);
+        say_wrong(to, format_args!("script names unknown entry {entry} in call {call}"))?;
+        return Ok(true);
     }
     if more {
-        return false;
+        return Ok(false);
     }
     if done.at == script.len() {
-        say_ended(to, done.calls);
-        return true;
+        streams::print_line(to, b"", format_args!("script ended after {calls} calls"))?;
+        return Ok(true);
     }
     if done.at == 0 {
-        say_cut_short(to, done.calls);
-        return true;
+        say_wrong(to, format_args!("script cut short in call {call}"))?;
+        return Ok(true);
     }
-    false
+    Ok(false)
 }
 
 // Answers the whole calls of what was read, and sends the answers.
@@ -133,28 +104,14 @@ fn answer_window(
     script: &[u8],
     registers: &mut Registers,
     answers: &mut [u8],
-    w: Window,
-    calls: u64,
-) -> Run {
-    let done = answer_all(script, registers, answers, calls);
-    if !streams::write(to, answers, done.put) {
-        return Run {
-            window: w,
-            calls,
-            going: false,
-        };
-    }
-    let over = is_over(to, script, done, !w.ended);
-    let window = Window {
-        at: done.at,
-        end: w.end,
-        ended: w.ended,
-    };
-    Run {
-        window,
-        calls: done.calls,
-        going: !over,
-    }
+    run: &mut Run,
+) -> io::Result<()> {
+    let done = answer_all(script, registers, answers, run.calls);
+    to.out.write_all(answers.get(..done.put).unwrap_or(&[]))?;
+    run.going = !is_over(to, script, done, !run.window.ended)?;
+    run.window.at = done.at;
+    run.calls = done.calls;
+    Ok(())
 }
 
 // Reads what there is, answers its whole calls and keeps the rest. A read that fails is told and ends the run.
@@ -164,44 +121,40 @@ fn turn(
     script: &mut [u8],
     registers: &mut Registers,
     answers: &mut [u8],
-    run: Run,
-) -> Run {
-    match streams::refill(from, script, run.window) {
-        Ok(w) => {
-            let held = script.get(..w.end).unwrap_or(&[]);
-            answer_window(to, held, registers, answers, w, run.calls)
+    run: &mut Run,
+) -> io::Result<()> {
+    match run.window.refill(from, script) {
+        Ok(window) => {
+            run.window = window;
+            let held = script.get(..window.end).unwrap_or(&[]);
+            answer_window(to, held, registers, answers, run)
         }
         Err(error) => {
-            streams::fail(to, b"standard input", &error);
-            Run {
-                window: run.window,
-                calls: run.calls,
-                going: false,
-            }
+            streams::fail(to, "standard input", &error);
+            run.going = false;
+            Ok(())
         }
     }
 }
 
 // Turns until the script is over. Nothing says that the input ends, so turns are counted, up to a number that no run
 // comes to.
-fn replay(
-    from: &mut Stdin,
-    to: Streams,
-    script: &mut [u8],
-    registers: &mut Registers,
-    answers: &mut [u8],
-) {
+fn replay(from: &mut Stdin, to: Streams) -> io::Result<()> {
+    let mut script = [0u8; 65536];
+    let mut answers = [0u8; 65536];
+    let mut registers = Registers::new();
     let mut run = Run {
-        window: streams::closed(),
+        window: Window::default(),
         calls: 0,
         going: true,
     };
     for _ in 0..u64::MAX {
         if !run.going {
-            return;
+            break;
         }
-        run = turn(from, to, script, registers, answers, run);
+        turn(from, to, &mut script, &mut registers, &mut answers, &mut run)?;
     }
+    Ok(())
 }
 
 fn main(rt: HostRuntime) {
@@ -209,14 +162,7 @@ fn main(rt: HostRuntime) {
         out: rt.stdout(),
         err: rt.stderr(),
     };
-    let mut script = [0u8; 65536];
-    let mut answers = [0u8; 65536];
-    let mut registers = Registers::new();
-    replay(
-        &mut rt.stdin(),
-        to,
-        &mut script,
-        &mut registers,
-        &mut answers,
-    );
+    if let Err(error) = replay(&mut rt.stdin(), to) {
+        streams::fail(to, "standard output", &error);
+    }
 }
