@@ -23,7 +23,7 @@ fn with(to: Streams, going: bool, text: &[u8], place: usize, b: u8) -> bool
 {
     let mut d = sound_dump();
     d[place] = b;
-    line(to, going, text, bank::validate(&d) as u64)
+    line(to, going, text, told(bank::validate(&d).err()))
 }
 
 // The number of a refusal; 0 for none.
@@ -140,15 +140,20 @@ fn lengths(to: Streams, going: bool) -> bool {
         to,
         going,
         b"dump of 4103 bytes: ",
-        bank::validate(&short) as u64,
+        told(bank::validate(&short).err()),
     );
     let b = line(
         to,
         a,
         b"dump of 4104 bytes: ",
-        bank::validate(&sound) as u64,
+        told(bank::validate(&sound).err()),
     );
-    line(to, b, b"dump of 4105 bytes: ", bank::validate(&long) as u64)
+    line(
+        to,
+        b,
+        b"dump of 4105 bytes: ",
+        told(bank::validate(&long).err()),
+    )
 }
 
 fn frame(to: Streams, going: bool) -> bool {
@@ -167,8 +172,8 @@ fn opened(to: Streams, going: bool, number: &[u8], channel: &[u8], third: u8, su
     d[2] = third;
     d[4102] = sum;
     let r = bank::channel(&d);
-    let a = line(to, going, number, r.number as u64);
-    line(to, a, channel, r.channel as u64)
+    let a = line(to, going, number, told(r.err()));
+    line(to, a, channel, r.unwrap_or(0) as u64)
 }
 
 fn channels(to: Streams, going: bool) -> bool {
@@ -195,34 +200,39 @@ fn contents(to: Streams, going: bool) -> bool {
     with(to, d, b"checksum 128: ", 4102, 128)
 }
 
+// The length of a part; 0 for one that is refused.
+fn length(part: Result<&[u8], Refusal>) -> u64 {
+    part.map_or(0, |p| p.len() as u64)
+}
+
 fn slots(to: Streams, going: bool) -> bool {
     let sound = sound_dump();
     let short = [0u8; 7];
-    let a = line(to, going, b"slot 31: ", bank::number(&sound, 31) as u64);
-    let b = line(to, a, b"slot 32: ", bank::number(&sound, 32) as u64);
+    let a = line(to, going, b"slot 31: ", told(bank::check(&sound, 31).err()));
+    let b = line(to, a, b"slot 32: ", told(bank::check(&sound, 32).err()));
     let c = line(
         to,
         b,
         b"slot 32 of a short dump: ",
-        bank::number(&short, 32) as u64,
+        told(bank::check(&short, 32).err()),
     );
     let d = line(
         to,
         c,
         b"part of slot 31: ",
-        bank::read(&sound, 31).len() as u64,
+        length(bank::read(&sound, 31)),
     );
     let e = line(
         to,
         d,
         b"part of slot 32: ",
-        bank::read(&sound, 32).len() as u64,
+        length(bank::read(&sound, 32)),
     );
     line(
         to,
         e,
         b"part of a short dump: ",
-        bank::part(&short, 0).len() as u64,
+        length(bank::part(&short, 0)),
     )
 }
 

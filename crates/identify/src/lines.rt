@@ -62,12 +62,13 @@ pub fn tell_stray(to: Streams, name: &[u8], place: u64, count: u64) {
 
 // The lines of a dump that begins at a place, which is validated once.
 pub fn print_dump(to: Streams, name: &[u8], dump: &[u8], place: u64) -> bool {
-    let number = bank::validate(dump);
-    if number != 0 {
-        tell_refusal_at(to, name, number, place);
-        return true;
+    match bank::validate(dump) {
+        Ok(()) => print_bank(to, name, dump),
+        Err(refusal) => {
+            tell_refusal_at(to, name, refusal.number(), place);
+            true
+        }
     }
-    print_bank(to, name, dump)
 }
 
 // The line of a single-voice dump that begins at a place.

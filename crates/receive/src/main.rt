@@ -47,14 +47,14 @@ fn take(to: Streams, buffer: &[u8], patch: &mut [u8; 128], run: Run) -> Run {
 
 // Whether the dump was sound.
 fn say_end(to: Streams, receiver: Receiver) {
-    let e = bank_pieces::end(receiver);
-    if e.number != 0 {
-        streams::tell_refusal(to, b"", b"", e.number);
-        return;
+    match bank_pieces::end(receiver) {
+        Ok(ended) => {
+            let mut digits = [0u8; 20];
+            let k = streams::decimal(ended.channel as u64, &mut digits);
+            streams::print_line(to, b"", b"sound, channel ", &digits[..k]);
+        }
+        Err(refused) => streams::tell_refusal(to, b"", b"", refused.refusal.number()),
     }
-    let mut digits = [0u8; 20];
-    let k = streams::decimal(e.channel as u64, &mut digits);
-    streams::print_line(to, b"", b"sound, channel ", &digits[..k]);
 }
 
 // One read. A failed one is told, and where nothing more came the dump is over.

@@ -29,7 +29,7 @@ use Rattle.single.proofs.Turns.{turned_low}
 -- the form's bytes, as the request writes them: F0 43 0n 00 01 1B
 pub single_header : single_form.header
     ≡ fixed 0xF0 ∷ fixed 0x43 ∷ channel_row ∷ fixed 0x00 ∷ fixed 0x01 ∷ fixed 0x1B ∷ []
-unfolding single_form yamaha_form
+unfolding single_form
 single_header = refl
 
 -- a dump's order is 0 to 154: no field stands there twice

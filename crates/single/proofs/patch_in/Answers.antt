@@ -7,6 +7,6 @@ use Rattle.single.proofs.Orders.{patch_of_turned}
 use Rattle.single.proofs.patch_in.Goals as goal
 
 pub returns : goal.returns
-unfolding data_of single_form yamaha_form
+unfolding single_form
 returns c =
     c.patch_of.ensures ∙ ap patch_of c.turned-numbers.ensures ∙ patch_of_turned _

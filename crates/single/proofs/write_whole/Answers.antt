@@ -13,7 +13,7 @@ use borrow.Author.Rules.{rules}
 use Rattle.single.proofs.write_whole.Goals as goal
 
 pub write-requires : goal.write-requires
-unfolding single_form yamaha_form
+unfolding single_form
 write-requires c =
     let count : c.single_form.result.count ≡ 155 =
     ap (λ (f : Form). f.count) c.single_form.ensures in
