@@ -216,18 +216,8 @@ fn slots(to: Streams, going: bool) -> bool {
         b"slot 32 of a short dump: ",
         told(bank::check(&short, 32).err()),
     );
-    let d = line(
-        to,
-        c,
-        b"part of slot 31: ",
-        length(bank::read(&sound, 31)),
-    );
-    let e = line(
-        to,
-        d,
-        b"part of slot 32: ",
-        length(bank::read(&sound, 32)),
-    );
+    let d = line(to, c, b"part of slot 31: ", length(bank::read(&sound, 31)));
+    let e = line(to, d, b"part of slot 32: ", length(bank::read(&sound, 32)));
     line(
         to,
         e,

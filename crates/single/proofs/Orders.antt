@@ -8,7 +8,7 @@ use native.Mathlib.Omega.{arith}
 use borrow.Author.Tests.{leb-true}
 use lib.Dec.{eqb, leb}
 use lib.ListN.{length}
-use Rattle.dump.specs.Dump.{fixed, channel_row, yamaha_form, largest_of}
+use Rattle.dump.specs.Dump.{fixed, channel_row, largest_of}
 use Rattle.patch.specs.declared.Patch.{Patch}
 use Rattle.patch.specs.Layout.{later, envelope_field, scaling_field, operator_field, lfo_field, field_of}
 use Rattle.patch.specs.Layout.{Place, operator_names, envelope_names, scaling_names, lfo_names, letters, shared_names}

@@ -14,13 +14,11 @@ use Rattle.std.specs.Prelude.{Result, Ok, Err}
 use Rattle.std.specs.Result.{result_and, result_map_both}
 use Rattle.refusals.specs.declared.Refusal.{Refusal}
 use Rattle.refusals.specs.declared.Refusal.TheVariants.{ForeignState}
-use Rattle.refusals.specs.declared.Refused.{Refused}
 use Rattle.refusals.specs.Answer.{refused}
 use Rattle.dump.specs.Dump.{channel_byte, dump_check, largest_of, size_of}
 use Rattle.bank.specs.Bank.{bank_form, slot_of, part_of, validate_of, channel_of}
 use Rattle.dump.proofs.Numbers.{is_short, sound}
 use Rattle.bank.proofs.Parts.{part_of_sound}
-use Rattle.bank_pieces.specs.declared.Ended.{Ended}
 use Rattle.bank_pieces.specs.declared.Receiver.{Receiver}
 use Rattle.bank_pieces.specs.Pieces.{Held, Took, possible, counting, missing, completes, takes, took, take_of}
 use Rattle.bank_pieces.specs.Pieces.{closing, closed, end_of, frame_with, is_right}

@@ -9,7 +9,7 @@ use borrow.Author.Tests.{ne_eqb, le-leb, le-ltb}
 use lib.Dec.{eqb, leb}
 use lib.ListN.{length, get_or, drop, drop_of_length-le}
 use lib.Seq.{drop-cons}
-use Rattle.dump.specs.Dump.{in_row, in_rows, framed, sum_place, channel_byte, yamaha_form}
+use Rattle.dump.specs.Dump.{in_row, in_rows, framed, channel_byte}
 use Rattle.bank.specs.Bank.{bank_form}
 use Rattle.bank_pieces.specs.Pieces.{is_right, frame_with}
 

@@ -10,7 +10,7 @@ use lib.Dec.{eqb, leb, ltb}
 use lib.ListN.{length, get_or, take, drop, replicate, length-append, length-replicate, length-take, get_or-replicate}
 use lib.ListN.{get_or-append}
 use lib.Seq.{length-take-le, get_or-take, get_or_at, take-take, take-append-le}
-use Rattle.dump.specs.Dump.{in_row, total, largest_of, yamaha_form}
+use Rattle.dump.specs.Dump.{in_row, total, largest_of}
 use Rattle.bank.specs.Bank.{bank_form}
 use Rattle.bank_pieces.specs.declared.Receiver.{Receiver}
 use Rattle.bank_pieces.specs.Pieces.{fresh, possible, came_all, frame_with, is_right, summed_with, checked_with}

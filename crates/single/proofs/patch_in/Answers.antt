@@ -1,6 +1,5 @@
 -- `single::patch_in` meets its contract: its data, turned, are the patch's numbers. Assumes nothing.
 use mathlib.Core.Path.{◌∙◌, ap}
-use Rattle.dump.specs.Dump.{yamaha_form, data_of}
 use Rattle.patch_numbers.specs.Numbers.{patch_of}
 use Rattle.single.specs.Single.{single_form}
 use Rattle.single.proofs.Orders.{patch_of_turned}

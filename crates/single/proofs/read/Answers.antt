@@ -6,8 +6,7 @@ use Rattle.std.specs.Prelude.{Result}
 use Rattle.refusals.specs.declared.Refusal.{Refusal}
 use Rattle.dump.specs.declared.Form.{Form}
 use Rattle.dump.specs.Dump.{dump_channel}
-use Rattle.patch.specs.declared.Patch.{Patch}
-use Rattle.single.specs.Single.{single_form, read_of}
+use Rattle.single.specs.Single.{single_form}
 use Rattle.single.proofs.Answers.{opened_length, dump_refused, patch_refused, patch_read}
 use Rattle.single.proofs.read.Goals as goal
 

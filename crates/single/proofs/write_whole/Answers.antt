@@ -5,7 +5,6 @@ use Prim.Native.Nat.{ℕ}
 use native.Mathlib.Omega.{arith}
 use lib.ListN.{length}
 use Rattle.dump.specs.declared.Form.{Form}
-use Rattle.dump.specs.Dump.{yamaha_form}
 use Rattle.dump_writer.specs.Written.{written_of}
 use Rattle.single.specs.Single.{single_form, data_bytes, turned}
 use Rattle.single.proofs.Orders.{data_of_numbers}
