@@ -1,7 +1,7 @@
 // Conversions: level 100 is refused with 6, pitch level 18 is -1 and 82 slightly above 1. A field is refused before a
 // parameter.
 use crate::heading;
-use dx_units::{Converted, Level};
+use refusals::Refusal;
 use streams::Streams;
 
 // The end of a line, which begins with what was given.
@@ -10,9 +10,9 @@ fn end(to: Streams, line: &mut [u8], at: usize) -> bool {
     streams::write(to, line, n)
 }
 
-fn end_refused(to: Streams, line: &mut [u8], at: usize, number: u8) -> bool {
+fn end_refused(to: Streams, line: &mut [u8], at: usize, refusal: Refusal) -> bool {
     let a = streams::put(line, at, b" is refused with ");
-    let b = streams::put_decimal(line, a, number as u64);
+    let b = streams::put_decimal(line, a, refusal.number() as u64);
     end(to, line, b)
 }
 
@@ -34,25 +34,25 @@ fn put_millionths(line: &mut [u8], at: usize, x: f32) -> usize {
     streams::put(line, b, b" millionths")
 }
 
-fn end_answer(to: Streams, line: &mut [u8], at: usize, answer: Converted) -> bool {
+fn end_answer(to: Streams, line: &mut [u8], at: usize, answer: Result<f32, Refusal>) -> bool {
     match answer {
-        Converted::Value(x) => {
+        Ok(x) => {
             let a = streams::put(line, at, b" is ");
             let b = put_millionths(line, a, x);
             end(to, line, b)
         }
-        Converted::Refused(number) => end_refused(to, line, at, number),
+        Err(refusal) => end_refused(to, line, at, refusal),
     }
 }
 
-fn end_level(to: Streams, line: &mut [u8], at: usize, answer: Level) -> bool {
+fn end_level(to: Streams, line: &mut [u8], at: usize, answer: Result<u8, Refusal>) -> bool {
     match answer {
-        Level::Value(v) => {
+        Ok(v) => {
             let a = streams::put(line, at, b" is ");
             let b = streams::put_decimal(line, a, v as u64);
             end(to, line, b)
         }
-        Level::Refused(number) => end_refused(to, line, at, number),
+        Err(refusal) => end_refused(to, line, at, refusal),
     }
 }
 
