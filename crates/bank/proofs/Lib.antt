@@ -1,4 +1,3 @@
 pub mod Channels
 pub mod Numbers
 pub mod Parts
-pub mod Readers

@@ -1,12 +1,12 @@
 // A bank, a dump of 32 packed patches, its channel, and a slot in it. Added by us: no Rust file. Each entry is what
-// specs/Bank says, for sound and damaged dumps alike. Numbers given back: 2 slot above 31, 10 wrong length, 11 wrong
-// frame byte, 12 data byte above 127, 13 wrong checksum.
+// specs/Bank says, for sound and damaged dumps alike. A slot above 31 is refused with 2, and the rest as any dump is.
 #![tactic(auto)]
 
 ghost use Rattle.std.specs.Prelude.{◌≡◌, ◌+◌, ◌≤◌, length};
-ghost use Rattle.bank.specs.Bank.{bank_form, validate_of, number_of, channel_of, slot_of, slot_at, Handed};
+ghost use Rattle.bank.specs.Bank.{bank_form, validate_of, check_of, channel_of, slot_of, slot_at, Handed};
 
-use dump::{Form, Opened};
+use dump::Form;
+use refusals::Refusal;
 
 pub const DUMP_SIZE: usize = 4104;
 
@@ -17,26 +17,26 @@ pub fn bank_form() -> Form
     dump::yamaha_form(0x09, 4096)
 }
 
-// The number of a bank's dump.
-pub fn validate(dump: &[u8]) -> u8
+// Why a bank's dump is refused, if it is.
+pub fn validate(dump: &[u8]) -> Result<(), Refusal>
     ensures { result ≡ validate_of dump.now }
 {
-    dump::number(dump, bank_form())
+    dump::check(dump, bank_form())
 }
 
-// The number of a dump and a slot.
-pub fn number(dump: &[u8], slot: usize) -> u8
-    ensures { result ≡ number_of dump.now slot }
+// Why a slot of a dump is refused, if it is: the slot comes before the dump.
+pub fn check(dump: &[u8], slot: usize) -> Result<(), Refusal>
+    ensures { result ≡ check_of dump.now slot }
 {
     let beyond = slot > 31;
     if beyond {
-        return 2;
+        return Err(Refusal::WrongTable);
     }
     validate(dump)
 }
 
-// The number of a bank's dump, and its channel: 0 where the dump is refused.
-pub fn channel(dump: &[u8]) -> Opened
+// The channel of a bank's dump.
+pub fn channel(dump: &[u8]) -> Result<u8, Refusal>
     ensures { result ≡ channel_of dump.now }
 {
     dump::channel(dump, bank_form())
@@ -52,15 +52,12 @@ pub fn slot_part<'a>(dump: &'a [u8], slot: usize) -> &'a [u8]
     &dump[a..e]
 }
 
-// A slot's 128 bytes, the very ones in the dump; none where the number is not 0.
-pub fn part<'a>(dump: &'a [u8], slot: usize) -> &'a [u8]
+// A slot's 128 bytes, the very ones in the dump.
+pub fn part<'a>(dump: &'a [u8], slot: usize) -> Result<&'a [u8], Refusal>
     ensures { Handed dump.entry slot result }
 {
-    let z = 0usize;
-    if number(dump, slot) != 0 {
-        return &dump[..z];
-    }
-    slot_part(dump, slot)
+    check(dump, slot)?;
+    Ok(slot_part(dump, slot))
 }
 
 // The named form: the borrowed dump and a slot number. Its functions take it apart and call those above.
@@ -81,26 +78,23 @@ impl<'a> Reader<'a> {
     pub fn moved(self, slot: usize) -> Reader<'a>
         ensures { (result.dump ≡ self.entry.dump) × (result.slot ≡ slot) }
     {
-        Reader {
-            dump: self.dump,
-            slot,
-        }
+        Reader { slot, ..self }
     }
 
-    pub fn number(self) -> u8
-        ensures { result ≡ number_of self.entry.dump.now self.entry.slot }
+    pub fn check(self) -> Result<(), Refusal>
+        ensures { result ≡ check_of self.entry.dump.now self.entry.slot }
     {
-        number(self.dump, self.slot)
+        check(self.dump, self.slot)
     }
 
-    // The dump's number and channel, whatever the slot.
-    pub fn channel(self) -> Opened
+    // The dump's channel, whatever the slot.
+    pub fn channel(self) -> Result<u8, Refusal>
         ensures { result ≡ channel_of self.entry.dump.now }
     {
         channel(self.dump)
     }
 
-    pub fn part(self) -> &'a [u8]
+    pub fn part(self) -> Result<&'a [u8], Refusal>
         ensures { Handed self.entry.dump self.entry.slot result }
     {
         part(self.dump, self.slot)
@@ -108,7 +102,7 @@ impl<'a> Reader<'a> {
 }
 
 // A slot's part by way of a reader, for every other caller: plain parameters.
-pub fn read<'a>(dump: &'a [u8], slot: usize) -> &'a [u8]
+pub fn read<'a>(dump: &'a [u8], slot: usize) -> Result<&'a [u8], Refusal>
     ensures handed { Handed dump.entry slot result }
 {
     Reader::new(dump, slot).part()

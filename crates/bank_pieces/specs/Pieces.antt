@@ -2,7 +2,12 @@
 -- place, which is how many came before it: six bytes of the frame, 4,096 of data, the checksum, the last byte, and what
 -- is too much. Definitions only, all to be believed.
 use Rattle.std.specs.Prelude.{Bool, true, false, cond, ◌&&◌, ◌||◌, not, List, [], ◌∷◌, ℕ, ◌+◌, ◌-◌, ◌/◌, ◌%◌}
-use Rattle.std.specs.Prelude.{min, length, get_or, take, set, eqb, leb, ltb}
+use Rattle.std.specs.Prelude.{min, length, get_or, take, set, eqb, leb, ltb, Result, Ok, Err}
+use Rattle.std.specs.Result.{result_map_both}
+use Rattle.refusals.specs.declared.Refusal.{Refusal}
+use Rattle.refusals.specs.declared.Refusal.TheVariants.{ForeignState, WrongLength, FrameByte, HighByte, Checksum}
+use Rattle.refusals.specs.declared.Refused.{Refused}
+use Rattle.refusals.specs.Answer.{refused}
 use Rattle.dump.specs.Dump.{in_row, total, largest_of}
 use Rattle.bank.specs.Bank.{bank_form}
 use Rattle.bank_pieces.specs.declared.Receiver.{Receiver}
@@ -129,21 +134,22 @@ take_of r piece patch =
     cond (possible r) (took r piece patch)
     (record { taken = record { number = 9; receiver = r; taken = 0; complete = false; slot = 0 }; patch = patch })
 
--- the dump's number, in the old order: 10 wrong length, 11 wrong frame byte, 12 data byte above 127, 13 wrong checksum
-unfoldable pub closing : Receiver → ℕ
+-- why the dump that came is refused, in the order of whole dumps
+unfoldable pub closing : Receiver → Result (Unit {0}) Refusal
 closing r =
     cond (eqb r.count 4104)
-    (cond (leb r.frame 15) (cond (leb r.sum 127) (cond (eqb r.sum 0) 0 13) 12) 11)
-    10
+    (cond (leb r.frame 15)
+    (cond (leb r.sum 127) (cond (eqb r.sum 0) (Ok tt) (Err Checksum)) (Err HighByte)) (Err FrameByte))
+    (Err WrongLength)
 
--- THE END: the number and the channel, 0 where the number is not 0; the reader has ended, whatever the number. 9 as for
--- a piece
-unfoldable pub end_of : Receiver → Ended
+-- the reader that has ended
+abbrev pub closed : Receiver → Receiver
+closed r = record { count = r.count; frame = r.frame; sum = r.sum; ended = true }
+
+-- THE END: the channel, or why the dump is refused; the reader has ended, whatever it is. 9 as for a piece
+unfoldable pub end_of : Receiver → Result Ended (Refused Receiver)
 end_of r =
     cond (possible r)
-    (record {
-      number = closing r;
-      receiver = record { count = r.count; frame = r.frame; sum = r.sum; ended = true };
-      channel = cond (eqb (closing r) 0) r.frame 0;
-    })
-    (record { number = 9; receiver = r; channel = 0 })
+    (result_map_both (λ u. record { receiver = closed r; channel = r.frame })
+    (λ e. record { refusal = e; state = closed r }) (closing r))
+    (refused ForeignState r)

@@ -8,6 +8,8 @@ ghost use Rattle.std.specs.Prelude.{◌≡◌, true, false, ◌+◌, ◌-◌, �
 ghost use Rattle.bank_pieces.specs.Pieces.{fresh, possible, is_right, frame_with, summed_with, checked_with};
 ghost use Rattle.bank_pieces.specs.Pieces.{passed, passed_all, place_in, slot_at, took, take_of, end_of, closing};
 
+use refusals::{Refusal, Refused};
+
 // A reader between two pieces. How many bytes came: the count stops at the largest number. The frame: the third byte
 // once it came, or 255 once another byte of the frame was wrong. The sum of the patches reported, modulo 128, and 128
 // more once one of their bytes was above 127; behind the checksum what that leaves of it. Whether the end was told.
@@ -30,10 +32,9 @@ pub struct Taken {
     pub slot: u8,
 }
 
-// What the end gives: the dump's number, the reader behind it, and the dump's channel, 0 where it is refused.
+// What the end of a sound dump gives: the reader behind it, and the dump's channel.
 #[derive(Clone, Copy)]
 pub struct Ended {
-    pub number: u8,
     pub receiver: Receiver,
     pub channel: u8,
 }
@@ -81,11 +82,10 @@ fn is_right(place: usize, b: u8) -> bool
 {
     let form = bank::bank_form();
     if place < 6 {
-        let rows = form.header;
-        return dump::in_row(rows[place], b);
+        return form.header[place].contains(b);
     }
     if place == 4103 {
-        return dump::in_row(form.last, b);
+        return form.last.contains(b);
     }
     true
 }
@@ -315,60 +315,45 @@ pub fn take(receiver: Receiver, piece: &[u8], patch: &mut [u8; 128]) -> Taken
     whole(pass_rest(receiver, piece), piece.len())
 }
 
-// The number of the dump that came.
-fn closing_number(r: Receiver) -> u8
+// Why the dump that came is refused, if it is.
+fn closing(r: Receiver) -> Result<(), Refusal>
     ensures { result ≡ closing r }
 {
     let is_short = r.count != 4104;
     if is_short {
-        return 10;
+        return Err(Refusal::WrongLength);
     }
     if r.frame > 15 {
-        return 11;
+        return Err(Refusal::FrameByte);
     }
     if r.sum > 127 {
-        return 12;
+        return Err(Refusal::HighByte);
     }
     if r.sum != 0 {
-        return 13;
+        return Err(Refusal::Checksum);
     }
-    0
+    Ok(())
 }
 
-fn close(r: Receiver) -> Receiver
-    ensures { result ≡ record { count = r.count; frame = r.frame; sum = r.sum; ended = true } }
-{
-    Receiver {
-        count: r.count,
-        frame: r.frame,
-        sum: r.sum,
-        ended: true,
-    }
-}
-
-// Ends the reader, whatever the number.
-pub fn end(receiver: Receiver) -> Ended
+// Ends the reader, whether the dump was sound or not.
+pub fn end(receiver: Receiver) -> Result<Ended, Refused<Receiver>>
     ensures { result ≡ end_of receiver }
 {
     if !is_possible(receiver) {
-        return Ended {
-            number: 9,
-            receiver,
-            channel: 0,
-        };
+        return Err(Refused {
+            refusal: Refusal::ForeignState,
+            state: receiver,
+        });
     }
-    let number = closing_number(receiver);
-    let closed = close(receiver);
-    if number != 0 {
-        return Ended {
-            number,
-            receiver: closed,
-            channel: 0,
-        };
-    }
-    Ended {
-        number,
-        receiver: closed,
-        channel: receiver.frame,
+    let state = Receiver {
+        ended: true,
+        ..receiver
+    };
+    match closing(receiver) {
+        Ok(()) => Ok(Ended {
+            receiver: state,
+            channel: receiver.frame,
+        }),
+        Err(refusal) => Err(Refused { refusal, state }),
     }
 }

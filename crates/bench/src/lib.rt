@@ -337,7 +337,7 @@ pub extern "C" fn bench_again(bytes: &[u8], out: &mut [u8; 128]) -> u8 {
 // A bank's number.
 #[unsafe(no_mangle)]
 pub extern "C" fn bench_validate(dump: &[u8]) -> u8 {
-    bank::validate(dump)
+    bank::validate(dump).err().map_or(0, |r| r.number())
 }
 
 // A piece given to a reader until nothing of it is left; the mix has a byte of each reported patch.
@@ -403,8 +403,11 @@ pub extern "C" fn bench_pieces(dump: &[u8], size: usize) -> u8 {
         at = end;
     }
     let last = g.receiver;
-    let e = bank_pieces::end(last);
-    e.number ^ e.channel ^ g.mix
+    let told = match bank_pieces::end(last) {
+        Ok(ended) => ended.channel,
+        Err(refused) => refused.refusal.number(),
+    };
+    told ^ g.mix
 }
 
 // One row of six compiled; all of its plan.

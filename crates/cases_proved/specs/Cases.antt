@@ -1,13 +1,9 @@
 -- The worked cases of document 01, P1 to P15, as rows of one list; P8 to P11 with the marks of document 02's request e.
 -- A kind of row has a constructor and a line of `Holds`. Definitions only, all to be believed.
-use Rattle.std.specs.Prelude.{◌≡◌, List, [], ◌∷◌, ◌++◌, ℕ, ◌^◌, negsuc, Float, true, false, length, take}
+use Rattle.std.specs.Prelude.{◌≡◌, List, [], ◌∷◌, ◌++◌, ℕ, ◌^◌, negsuc, Float, true, false, length, take, Result, Ok}
 use Prim.Native.String.{String}
 use Rattle.std.specs.Float.{nan, fin}
 use Rattle.numbers.specs.F32.{decimal, minus_decimal}
-use Rattle.dx_units.specs.declared.Level.{Level}
-use Rattle.dx_units.specs.declared.Level.TheVariants as level
-use Rattle.dx_units.specs.declared.Converted.{Converted}
-use Rattle.dx_units.specs.declared.Converted.TheVariants as converted
 use Rattle.dx_units.specs.Answers.{operator_level_answer, operator_envelope_increment_answer}
 use Rattle.dx_units_step.specs.declared.Mark.{Mark}
 use Rattle.dx_units_step.specs.declared.Mark.TheVariants.{AsAsked, HeldAtTop, HeldAtZero}
@@ -19,12 +15,13 @@ use Rattle.algorithms.specs.declared.Planned.{Planned}
 use Rattle.operator.specs.declared.Lane.{Lane}
 use Rattle.operator.specs.Sample.{moved}
 use Rattle.plan_text.specs.Text.{plan_text}
+use Rattle.refusals.specs.declared.Refusal.{Refusal}
 use Rattle.refusals.specs.Refusals.{letters}
 
 -- a kind of row: what is given, and the answer that is to come
 pub data Case : Type 0 where
-  operator_level : ℕ → Level → Case
-  envelope_rate_of : ℕ → Converted → Case
+  operator_level : ℕ → Result ℕ Refusal → Case
+  envelope_rate_of : ℕ → Result Float Refusal → Case
   step : Float → ℕ → Mark → Case
   phase_moved : ℕ → ℕ → ℕ → Case
   row_accepted : List ℕ → List Call → List String → Case
@@ -82,13 +79,13 @@ printed =
 
 abbrev pub cases : List Case
 cases =
-    operator_level 0 (level.Value 0)  -- P1
-    ∷ operator_level 14 (level.Value 38)  -- P2
-    ∷ operator_level 15 (level.Value 42)  -- P3
-    ∷ operator_level 20 (level.Value 48)  -- P4
-    ∷ operator_level 99 (level.Value 127)  -- P5
-    ∷ envelope_rate_of 0 (converted.Value (fin false 1 (negsuc 19)))  -- P6: 2 ^ -20
-    ∷ envelope_rate_of 99 (converted.Value (decimal 546875 7))  -- P7
+    operator_level 0 (Ok 0)  -- P1
+    ∷ operator_level 14 (Ok 38)  -- P2
+    ∷ operator_level 15 (Ok 42)  -- P3
+    ∷ operator_level 20 (Ok 48)  -- P4
+    ∷ operator_level 99 (Ok 127)  -- P5
+    ∷ envelope_rate_of 0 (Ok (fin false 1 (negsuc 19)))  -- P6: 2 ^ -20
+    ∷ envelope_rate_of 99 (Ok (decimal 546875 7))  -- P7
     ∷ step (decimal 5 1) (2 ^ 31) AsAsked  -- P8
     ∷ step (decimal 75 2) (2 ^ 31) HeldAtTop  -- P9
     ∷ step (minus_decimal 25 2) 0 HeldAtZero  -- P10

@@ -1,7 +1,7 @@
 // Conversions: level 100 is refused with 6, pitch level 18 is -1 and 82 slightly above 1. A field is refused before a
 // parameter.
 use crate::heading;
-use dx_units::{Converted, Level};
+use refusals::Refusal;
 use std::{fmt, io};
 use streams::Streams;
 
@@ -21,42 +21,39 @@ impl fmt::Display for Millionths {
     }
 }
 
-fn answer<D: fmt::Display + Copy>(to: Streams, given: D, answer: Converted) -> io::Result<()> {
+// What is given, and the answer to it.
+fn answered<D: fmt::Display + Drop, A: fmt::Display + Drop>(
+    to: Streams,
+    given: D,
+    answer: Result<A, Refusal>,
+) -> io::Result<()> {
     match answer {
-        Converted::Value(x) => {
-            let millionths = Millionths(x);
-            streams::print_line(to, b"", format_args!("{given} is {millionths}"))
+        Ok(value) => streams::print_line(to, b"", format_args!("{given} is {value}")),
+        Err(refusal) => {
+            let number = refusal.number();
+            streams::print_line(to, b"", format_args!("{given} is refused with {number}"))
         }
-        Converted::Refused(number) => refused(to, given, number),
     }
-}
-
-fn refused<D: fmt::Display + Copy>(to: Streams, given: D, number: u8) -> io::Result<()> {
-    streams::print_line(to, b"", format_args!("{given} is refused with {number}"))
 }
 
 fn level(to: Streams, n: u8) -> io::Result<()> {
-    let given = format_args!("level {n}");
-    match dx_units::operator_level(n) {
-        Level::Value(v) => streams::print_line(to, b"", format_args!("{given} is {v}")),
-        Level::Refused(number) => refused(to, given, number),
-    }
+    answered(to, format_args!("level {n}"), dx_units::operator_level(n))
 }
 
 fn octaves(to: Streams, n: u8) -> io::Result<()> {
-    answer(
+    answered(
         to,
         format_args!("pitch level {n}"),
-        dx_units::pitch_envelope_level(n),
+        dx_units::pitch_envelope_level(n).map(Millionths),
     )
 }
 
 fn scaling(to: Streams, n: u8, note: f32) -> io::Result<()> {
     let millionths = Millionths(note);
-    answer(
+    answered(
         to,
         format_args!("rate scaling {n} at note {millionths}"),
-        dx_units::rate_scaling(note, n),
+        dx_units::rate_scaling(note, n).map(Millionths),
     )
 }
 

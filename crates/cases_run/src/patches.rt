@@ -24,7 +24,7 @@ fn with(to: Streams, text: &str, place: usize, b: u8) -> io::Result<()>
 {
     let mut d = sound_dump();
     d[place] = b;
-    line(to, text, bank::validate(&d) as u64)
+    line(to, text, told(bank::validate(&d).err()))
 }
 
 // The number of a refusal; 0 for none.
@@ -117,9 +117,21 @@ fn lengths(to: Streams) -> io::Result<()> {
     let short = [0u8; 4103];
     let sound = sound_dump();
     let long = [0u8; 4105];
-    line(to, "dump of 4103 bytes: ", bank::validate(&short) as u64)?;
-    line(to, "dump of 4104 bytes: ", bank::validate(&sound) as u64)?;
-    line(to, "dump of 4105 bytes: ", bank::validate(&long) as u64)
+    line(
+        to,
+        "dump of 4103 bytes: ",
+        told(bank::validate(&short).err()),
+    )?;
+    line(
+        to,
+        "dump of 4104 bytes: ",
+        told(bank::validate(&sound).err()),
+    )?;
+    line(
+        to,
+        "dump of 4105 bytes: ",
+        told(bank::validate(&long).err()),
+    )
 }
 
 fn frame(to: Streams) -> io::Result<()> {
@@ -138,8 +150,8 @@ fn opened(to: Streams, number: &str, channel: &str, third: u8, sum: u8) -> io::R
     d[2] = third;
     d[4102] = sum;
     let r = bank::channel(&d);
-    line(to, number, r.number as u64)?;
-    line(to, channel, r.channel as u64)
+    line(to, number, told(r.err()))?;
+    line(to, channel, r.unwrap_or(0) as u64)
 }
 
 fn channels(to: Streams) -> io::Result<()> {
@@ -159,23 +171,24 @@ fn contents(to: Streams) -> io::Result<()> {
     with(to, "checksum 128: ", 4102, 128)
 }
 
+// The length of a part; 0 for one that is refused.
+fn length(part: Result<&[u8], Refusal>) -> u64 {
+    part.map_or(0, |p| p.len() as u64)
+}
+
 fn slots(to: Streams) -> io::Result<()> {
     let sound = sound_dump();
     let short = [0u8; 7];
-    line(to, "slot 31: ", bank::number(&sound, 31) as u64)?;
-    line(to, "slot 32: ", bank::number(&sound, 32) as u64)?;
+    line(to, "slot 31: ", told(bank::check(&sound, 31).err()))?;
+    line(to, "slot 32: ", told(bank::check(&sound, 32).err()))?;
     line(
         to,
         "slot 32 of a short dump: ",
-        bank::number(&short, 32) as u64,
+        told(bank::check(&short, 32).err()),
     )?;
-    line(to, "part of slot 31: ", bank::read(&sound, 31).len() as u64)?;
-    line(to, "part of slot 32: ", bank::read(&sound, 32).len() as u64)?;
-    line(
-        to,
-        "part of a short dump: ",
-        bank::part(&short, 0).len() as u64,
-    )
+    line(to, "part of slot 31: ", length(bank::read(&sound, 31)))?;
+    line(to, "part of slot 32: ", length(bank::read(&sound, 32)))?;
+    line(to, "part of a short dump: ", length(bank::part(&short, 0)))
 }
 
 fn dumps(to: Streams) -> io::Result<()> {

@@ -32,26 +32,21 @@ module _ (s : List ℕ) (i : ℕ) (h : i < length s) where
 module _ (bytes : List ℕ) (c : ℕ) where
   -- a checksum that is not below 128, one that does not complete the sum, and one that does
   pub too_high : 127 < c → summed bytes c ≡ false
-  unfolding summed
   too_high h =
       ap (λ (b : Bool). eqb ((total bytes + c) % 128) 0 && b) (le-ltb c 128 (omega arith))
       ∙ and-false (eqb ((total bytes + c) % 128) 0)
 
   pub not_summed : (sum : ℕ) → sum ≡ total bytes % 128 → ((sum + c) % 128 ≡ 0 → ⊥) → summed bytes c ≡ false
-  unfolding summed
   not_summed sum e h = rw (ne_eqb ((total bytes + c) % 128) 0 (λ z. h (omega arith)))
 
   pub is_summed : (sum : ℕ) → sum ≡ total bytes % 128 → c ≤ 127 → (sum + c) % 128 ≡ 0 → summed bytes c ≡ true
-  unfolding summed
   is_summed sum e h z = rw (eq-eqb ((total bytes + c) % 128) 0 (omega arith)) (lt-ltb c 128 (omega arith))
 
 -- the checksum is the one number that is so
 pub checksum_summed : (bytes : List ℕ) → summed bytes (checksum_of bytes) ≡ true
-unfolding checksum_of
 checksum_summed bytes = is_summed bytes (checksum_of bytes) (total bytes % 128) refl (omega arith) (omega arith)
 
 pub summed_checksum : (bytes : List ℕ) (c : ℕ) → summed bytes c ≡ true → c ≡ checksum_of bytes
-unfolding summed checksum_of
 summed_checksum bytes c e =
     let p = (and-eq-true_iff (eqb ((total bytes + c) % 128) 0) (ltb c 128)).0 e in
     omega (arith, eqb-true ((total bytes + c) % 128) 0 p.0, ltb-true c 128 p.1)

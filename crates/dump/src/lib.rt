@@ -1,11 +1,14 @@
 // Dumps: what every form of them has, a frame, a channel, data and a checksum. Added by us: no Rust file. Each function
-// is what specs/Dump says, for sound and damaged dumps alike. Numbers given back: 10 wrong length, 11 wrong frame byte,
-// 12 data byte above 127, 13 wrong checksum.
+// is what specs/Dump says, for sound and damaged dumps alike. A dump is refused for its length, a byte of its frame, a
+// data byte above 127 or its checksum, in this order.
 #![tactic(auto)]
 
-ghost use Rattle.std.specs.Prelude.{◌≡◌, ◌+◌, ◌≤◌, ◌%◌, max, length};
-ghost use Rattle.dump.specs.Dump.{in_row, in_rows, fixed, yamaha_form, framed, total, largest_of, checksum_of};
-ghost use Rattle.dump.specs.Dump.{dump_number, opened_of};
+ghost use Rattle.std.specs.Prelude.{◌≡◌, ◌+◌, ◌%◌, length};
+ghost use Rattle.std.specs.List.{zip, list_all};
+ghost use Rattle.dump.specs.Dump.{in_row, fixed, yamaha_form, framed, total, largest_of, checksum_of};
+ghost use Rattle.dump.specs.Dump.{dump_check, dump_channel};
+
+use refusals::Refusal;
 
 // A byte of a frame: the least and the largest number that may stand there.
 #[derive(Clone, Copy)]
@@ -23,11 +26,13 @@ pub struct Form {
     pub last: Row,
 }
 
-// What opening a dump gives: its number, and its channel, 0 where it is refused.
-#[derive(Clone, Copy)]
-pub struct Opened {
-    pub number: u8,
-    pub channel: u8,
+impl Row {
+    // Whether a byte lies within its row.
+    pub fn contains(self, b: u8) -> bool
+        ensures { result ≡ in_row self b }
+    {
+        (self.from..=self.to).contains(&b)
+    }
 }
 
 // The row of one fixed byte.
@@ -68,23 +73,14 @@ pub struct Tallied {
     pub largest: u8,
 }
 
-fn larger(a: u8, b: u8) -> u8
-    ensures { result ≡ max a b }
-{
-    if a < b { b } else { a }
-}
-
 pub fn tally(s: &[u8]) -> Tallied
     ensures { (result.sum ≡ total s.now % 128) × (result.largest ≡ largest_of s.now) }
 {
     let mut sum = 0u8;
     let mut largest = 0u8;
-    let mut i = 0usize;
-    while i < s.len() {
-        let b = s[i];
+    for b in s {
         sum = (sum + b % 128) % 128;
-        largest = larger(largest, b);
-        i += 1;
+        largest = largest.max(*b);
     }
     Tallied { sum, largest }
 }
@@ -97,25 +93,11 @@ pub fn checksum(s: &[u8]) -> u8
     (128 - t.sum) % 128
 }
 
-// Whether a byte lies within its row.
-pub fn in_row(row: Row, b: u8) -> bool
-    ensures { result ≡ in_row row b }
-{
-    (row.from <= b) & (b <= row.to)
-}
-
-// Whether the first bytes do, one for each row.
+// Whether the first bytes lie within their rows, one for each.
 fn in_rows(dump: &[u8], rows: [Row; 6]) -> bool
-    requires { 6 ≤ length dump.now }
-    ensures { result ≡ in_rows rows dump.now 0 }
+    ensures { result ≡ list_all (λ p. in_row p.0 p.1) (zip rows dump.now) }
 {
-    let mut right = true;
-    let mut i = 0usize;
-    while i < 6 {
-        right = right & in_row(rows[i], dump[i]);
-        i += 1;
-    }
-    right
+    rows.iter().zip(dump).all(|(row, b)| row.contains(*b))
 }
 
 // Whether every byte of the frame does.
@@ -123,48 +105,37 @@ fn framed_right(dump: &[u8], form: Form) -> bool
     requires { length dump.now ≡ 6 + form.count + 2 }
     ensures { result ≡ framed form dump.now }
 {
-    let rows = form.header;
-    let begins = in_rows(dump, rows);
-    begins & in_row(form.last, dump[6 + form.count + 1])
+    in_rows(dump, form.header) && form.last.contains(dump[6 + form.count + 1])
 }
 
-// The number of a dump of a form.
-pub fn number(dump: &[u8], form: Form) -> u8
-    ensures { result ≡ dump_number form dump.now }
+// Why a dump of a form is refused, if it is.
+pub fn check(dump: &[u8], form: Form) -> Result<(), Refusal>
+    ensures { result ≡ dump_check form dump.now }
 {
-    if dump.len() < 8 {
-        return 10;
-    }
-    if dump.len() - 8 != form.count {
-        return 10;
+    if dump.len() < 8 || dump.len() - 8 != form.count {
+        return Err(Refusal::WrongLength);
     }
     if !framed_right(dump, form) {
-        return 11;
+        return Err(Refusal::FrameByte);
     }
     let end = 6 + form.count;
     let t = tally(&dump[6..end]);
     let c = dump[end];
     let has_high = t.largest > 127;
     if has_high {
-        return 12;
+        return Err(Refusal::HighByte);
     }
-    if c > 127 {
-        return 13;
+    if c > 127 || (t.sum + c) % 128 != 0 {
+        return Err(Refusal::Checksum);
     }
-    if (t.sum + c) % 128 != 0 {
-        return 13;
-    }
-    0
+    Ok(())
 }
 
-// The number of a dump of a form, and its channel.
-pub fn channel(dump: &[u8], form: Form) -> Opened
-    ensures { result ≡ opened_of form dump.now }
+// The channel of a dump of a form.
+pub fn channel(dump: &[u8], form: Form) -> Result<u8, Refusal>
+    ensures { result ≡ dump_channel form dump.now }
 {
-    let number = number(dump, form);
-    if number != 0 {
-        return Opened { number, channel: 0 };
-    }
+    check(dump, form)?;
     let channel = dump[2];
-    Opened { number, channel }
+    Ok(channel)
 }

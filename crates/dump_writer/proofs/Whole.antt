@@ -7,7 +7,6 @@ use lib.ListN.{length, get_or, set, drop, length-append, length-drop, length-set
 use lib.Seq.{paste}
 use Rattle.dump.specs.declared.Row.{Row}
 use Rattle.dump.specs.declared.Form.{Form}
-use Rattle.dump.specs.Dump.{with_channel}
 use Rattle.dump_writer.specs.Written.{header_of}
 use Rattle.lent_bytes.proofs.Blocks.{paste_behind}
 
@@ -26,7 +25,6 @@ header_bytes (a ∷ b ∷ c ∷ f ∷ g ∷ h ∷ []) d channel e = refl
 header_bytes (a ∷ b ∷ c ∷ f ∷ g ∷ h ∷ i ∷ rows) d channel e = let z : ⊥ = omega arith in absurd z
 
 pub header_length : (form : Form) (channel : ℕ) → length form.header ≡ 6 → length (header_of form channel) ≡ 6
-unfolding header_of with_channel
 header_length form channel e =
     length-set (map (λ (r : Row). r.from) form.header) 2 channel
     ∙ length-map form.header (λ (r : Row). r.from) ∙ e

@@ -11,22 +11,21 @@ use lib.Dec.{leb}
 use lib.ListN.{length, get_or, take, drop, length-append, length-take, length-drop, take-append-drop}
 use lib.ListN.{drop_of_length-le}
 use lib.Seq.{take-append_seam, get_or-append-add, get_or-append_seam, drop-drop, drop-cons}
+use Rattle.std.specs.Prelude.{Ok}
 use Rattle.dump.specs.declared.Row.{Row}
 use Rattle.dump.specs.declared.Form.{Form}
-use Rattle.dump.specs.Dump.{in_row, in_rows, fixed, yamaha_form, sum_place, size_of, framed, channel_byte, with_channel}
-use Rattle.dump.specs.Dump.{data_of, sum_byte, largest_of, checksum_of, dump_number}
+use Rattle.dump.specs.Dump.{in_row, in_rows, fixed, yamaha_form, sum_place, size_of, framed, channel_byte}
+use Rattle.dump.specs.Dump.{data_of, sum_byte, largest_of, checksum_of, dump_check}
 use Rattle.dump.proofs.Sums.{checksum_summed, summed_checksum}
 use Rattle.dump.proofs.Channels.{sixteen_row}
-use Rattle.dump.proofs.Numbers.{sound, is_0}
-use Rattle.dump_writer.specs.Written.{header_of, written_of}
+use Rattle.dump.proofs.Numbers.{sound, is_sound}
+use Rattle.dump_writer.specs.Written.{written_of}
 
 -- a byte is within the row of a fixed one exactly if it is that
 in_fixed : (b : ℕ) → in_row (fixed b) b ≡ true
-unfolding in_row
 in_fixed b = rw (le-leb b b (omega arith))
 
 of_fixed : (b x : ℕ) → in_row (fixed b) x ≡ true → x ≡ b
-unfolding in_row
 of_fixed b x e =
     let h = (and-eq-true_iff (leb b x) (leb x b)).0 e in
     omega (arith, leb-true b x h.0, leb-true x b h.1)
@@ -51,30 +50,24 @@ module _ (format channel : ℕ) (bytes : List ℕ) where
   head = 0xF0 ∷ 0x43 ∷ channel ∷ format ∷ length bytes / 128 % 128 ∷ length bytes % 128 ∷ []
 
   pub bytes_written : whole ≡ head ++ (bytes ++ tail)
-  unfolding written_of header_of with_channel yamaha_form
   bytes_written = refl
 
   pub length_written : length whole ≡ size_of own
-  unfolding size_of sum_place yamaha_form
   length_written = ap length bytes_written ∙ simp (length-append bytes tail) (omega arith)
 
   pub channel_written : channel_byte whole ≡ channel
-  unfolding channel_byte
   channel_written = ap (λ (l : List ℕ). get_or l 2 0) bytes_written
 
   pub data_written : data_of own whole ≡ bytes
-  unfolding data_of yamaha_form
   data_written = ap (λ (l : List ℕ). take (length bytes) (drop 6 l)) bytes_written ∙ take-append_seam bytes tail
 
   sum_written : sum_byte own whole ≡ checksum_of bytes
-  unfolding sum_byte sum_place yamaha_form
   sum_written =
       ap (λ (l : List ℕ). get_or l (6 + length bytes) 0) bytes_written
       ∙ get_or-append-add head (bytes ++ tail) (length bytes) 0
       ∙ get_or-append_seam bytes (checksum_of bytes) (0xF7 ∷ []) 0
 
   last_written : get_or whole (sum_place own + 1) 0 ≡ 0xF7
-  unfolding sum_place yamaha_form
   last_written =
       ap (λ (l : List ℕ). get_or l (6 + length bytes + 1) 0) bytes_written
       ∙ ap (λ (k : ℕ). get_or (head ++ (bytes ++ tail)) k 0) (add_assoc 6 (length bytes) 1)
@@ -83,7 +76,7 @@ module _ (format channel : ℕ) (bytes : List ℕ) where
 
   module _ (to : channel ≤ 15) where
     framed_written : framed own whole ≡ true
-    unfolding framed in_rows written_of header_of with_channel yamaha_form
+    unfolding in_rows
     framed_written =
         rw (
           last_written,
@@ -97,9 +90,9 @@ module _ (format channel : ℕ) (bytes : List ℕ) where
         )
 
     -- data below 128 on one of sixteen channels make a sound dump
-    pub sound_written : largest_of bytes ≤ 127 → dump_number own whole ≡ 0
+    pub sound_written : largest_of bytes ≤ 127 → dump_check own whole ≡ Ok tt
     sound_written low =
-        sym (is_0 own whole length_written framed_written (rw data_written low)
+        sym (is_sound own whole length_written framed_written (rw data_written low)
         (rw (data_written, sum_written) (checksum_summed bytes)))
 
 -- a list of six elements or more
@@ -121,21 +114,19 @@ two_last l n e =
     ∙ ap₂ (λ (k : ℕ) (m : List ℕ). get_or l k 0 ∷ m) (omega arith)
     (drop_of_length-le l {i = suc (suc n)} (omega arith)))
 
-module _ (format count : ℕ) (dump : List ℕ) (zero_is : dump_number (yamaha_form format count) dump ≡ 0) where
+module _ (format count : ℕ) (dump : List ℕ) (accepted : dump_check (yamaha_form format count) dump ≡ Ok tt) where
   abbrev form : Form
   form = yamaha_form format count
 
   -- the data are as many as the form says, and below 128
   size : length dump ≡ 6 + count + 2
-  unfolding size_of sum_place yamaha_form
-  size = (sound form dump zero_is).long
+  size = (sound form dump accepted).long
 
   pub data_length : length (data_of form dump) ≡ count
-  unfolding data_of yamaha_form
   data_length = length-take count (drop 6 dump) ∙ simp (length-drop 6 dump, size) (omega arith)
 
   pub data_low : largest_of (data_of form dump) ≤ 127
-  data_low = (sound form dump zero_is).low
+  data_low = (sound form dump accepted).low
 
   -- every fixed byte of the frame stands there
   abbrev at : ℕ → ℕ
@@ -147,10 +138,9 @@ module _ (format count : ℕ) (dump : List ℕ) (zero_is : dump_number (yamaha_f
       × (at (6 + count + 1) ≡ 0xF7)
 
   frame : Frame
-  unfolding framed yamaha_form sum_place
   frame =
       let all = (and-eq-true_iff (in_rows form.header dump 0) (in_row (fixed 0xF7) (at (6 + count + 1)))).0
-      (sound form dump zero_is).right in
+      (sound form dump accepted).right in
       let a = first_row _ _ dump 0 all.0 in
       let b = first_row _ _ dump 1 a.1 in
       let c = first_row _ _ dump 2 b.1 in
@@ -167,11 +157,10 @@ module _ (format count : ℕ) (dump : List ℕ) (zero_is : dump_number (yamaha_f
 
   -- a sound dump is what is written of its channel and its data
   pub written_of_sound : written_of form (channel_byte dump) (data_of form dump) ≡ dump
-  unfolding written_of header_of with_channel yamaha_form data_of sum_byte sum_place channel_byte
   written_of_sound =
       let f = frame in
       let sum : at (6 + count) ≡ checksum_of (data_of form dump) =
-      summed_checksum (data_of form dump) (sum_byte form dump) (sound form dump zero_is).summing in
+      summed_checksum (data_of form dump) (sum_byte form dump) (sound form dump accepted).summing in
       let rest : drop 6 dump ≡ data_of form dump ++ (checksum_of (data_of form dump) ∷ 0xF7 ∷ []) =
       sym (take-append-drop count (drop 6 dump))
       ∙ ap (λ (l : List ℕ). take count (drop 6 dump) ++ l) (drop-drop count 6 dump ∙ two_last dump (6 + count) size

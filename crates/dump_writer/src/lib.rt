@@ -11,12 +11,7 @@ use dump::Form;
 fn header(form: Form, channel: u8) -> [u8; 6]
     ensures { result ≡ header_of form channel }
 {
-    let rows = form.header;
-    let first = rows[0];
-    let maker = rows[1];
-    let format = rows[3];
-    let high = rows[4];
-    let low = rows[5];
+    let [first, maker, _, format, high, low] = form.header;
     [
         first.from,
         maker.from,
@@ -33,8 +28,7 @@ pub fn write(out: &mut [u8], form: Form, channel: u8, data: &[u8])
     ensures { out.new ≡ written_of form channel «data».now }
 {
     let head = header(form, channel);
-    let last = form.last;
-    let tail = [dump::checksum(data), last.from];
+    let tail = [dump::checksum(data), form.last.from];
     lent_bytes::put(out, 0, &head);
     lent_bytes::put(out, 6, data);
     lent_bytes::put(out, 6 + form.count, &tail);

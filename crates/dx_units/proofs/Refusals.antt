@@ -1,39 +1,14 @@
--- What an entry answers, by its tests, over plain variables. Assumes nothing.
-use mathlib.Core.Path.{◌≡◌, sym, subst, ◌∙◌}
-use mathlib.Core.Bool.{Bool, true, false, ◌&&◌, and_assoc, and-true}
-use Prim.Native.Nat.{ℕ, ◌≤◌, ◌<◌}
-use borrow.Author.Tests.{le-leb, lt-leb}
+-- What an entry's tests say of its fields, over plain variables. Assumes nothing.
+use mathlib.Core.Path.{◌≡◌, sym, subst}
+use mathlib.Core.Bool.{true, ◌&&◌, and_assoc, and-true}
+use Prim.Native.Nat.{ℕ, ◌≤◌}
 use lib.Dec.{T, leb, leb→le}
 use lib.Ieee.Fits.{and_l, and_r}
-use lib.Ieee.{Float}
-use Rattle.dx_units.specs.declared.Converted.TheVariants.{Value, Refused}
 use Rattle.patch.specs.declared.KeyboardScaling.{KeyboardScaling}
 use Rattle.patch.specs.Packed.{within, scaling_fits}
 use Rattle.patch.specs.Form.{scaling_number}
 use Rattle.patch.specs.Layout.{scaling_field, operator_field, scaling_names}
-use Rattle.dx_units.specs.Answers.{field_number, parameter_number, first_of, converted_for, frequency_fits}
-
--- a field alone: 6 above its largest number
-pub field_fits_lem : (n largest : ℕ) {r x : Float} → n ≤ largest → r ≡ x
-    → Value r ≡ converted_for (field_number (leb n largest)) x
-field_fits_lem n largest h e = simp (le-leb n largest h, e)
-
-pub field_above : (n largest : ℕ) (x : Float) → largest < n → Refused 6 ≡ converted_for (field_number (leb n largest)) x
-field_above n largest x h = simp (lt-leb n largest h)
-
--- with a parameter after it: 7 for a NaN and outside its range
-pub field_first : (fits : Bool) (m : ℕ) (v : Float) → fits ≡ false
-    → Refused 6 ≡ converted_for (first_of (field_number fits) m) v
-field_first fits m v e = simp e
-
-module _ (fits inside : Bool) (v : Float) (e : fits ≡ true) where
-  pub parameter_inside : {t : Bool} {r : Float} → t ≡ inside → t ≡ true → r ≡ v
-      → Value r ≡ converted_for (first_of (field_number fits) (parameter_number inside)) v
-  parameter_inside et h er = simp (e, sym et ∙ h, er)
-
-  pub parameter_outside : {t : Bool} → t ≡ inside → t ≡ false
-      → Refused 7 ≡ converted_for (first_of (field_number fits) (parameter_number inside)) v
-  parameter_outside et h = simp (e, sym et ∙ h)
+use Rattle.dx_units.specs.Answers.{frequency_fits}
 
 -- the five numbers of keyboard scaling that fit, one by one
 pub five_fit : (k : KeyboardScaling)

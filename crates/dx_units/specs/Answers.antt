@@ -1,17 +1,9 @@
--- What each conversion's entry answers: its number, and by it a value or the refusal. Definitions only, all to be
+-- What each conversion's entry answers: a value, or a refusal. Definitions only, all to be
 -- believed.
-use Rattle.std.specs.Prelude.{Bool, ◌&&◌, cond, ℕ, zero, suc, Float}
+use Rattle.std.specs.Prelude.{Bool, ◌&&◌, cond, ℕ, Float, Result, Ok, Err}
 use Rattle.units.specs.Tables.{lut_pitch_ratio_high, lut_pitch_ratio_low}
-use Rattle.dx_units.specs.declared.Level.{Level}
-use Rattle.dx_units.specs.declared.Level.TheVariants as level
-use Rattle.dx_units.specs.declared.Converted.{Converted}
-use Rattle.dx_units.specs.declared.Converted.TheVariants as converted
-use Rattle.dx_units.specs.declared.Delay.{Delay}
-use Rattle.dx_units.specs.declared.Delay.TheVariants as delayed
 use Rattle.dx_units_inner.specs.declared.Increments.{Increments}
 use Rattle.dx_units_inner.specs.declared.Ratio.{Ratio}
-use Rattle.dx_units.specs.declared.Tuning.{Tuning}
-use Rattle.dx_units.specs.declared.Tuning.TheVariants as tuned
 use Rattle.dx_units_inner.specs.Units.{operator_level, pitch_envelope_level, operator_envelope_increment}
 use Rattle.dx_units_inner.specs.Units.{pitch_envelope_increment, lfo_frequency, lfo_delay, normalized_velocity_of}
 use Rattle.dx_units_inner.specs.Units.{rate_scaling_of}
@@ -23,21 +15,22 @@ use Rattle.patch.specs.Layout.{Rate, Level as StageLevel, OutputLevel, RateScali
 use Rattle.patch.specs.Layout.{Mode, Coarse, Fine, Detune, LfoRate, LfoDelay, PitchSensitivity}
 use Rattle.patch.specs.Packed.{field_fits, scaling_fits}
 use Rattle.patch_limits.specs.Ranges.{note_fits, unit_fits}
+use Rattle.refusals.specs.declared.Refusal.{Refusal}
+use Rattle.refusals.specs.declared.Refusal.TheVariants.{Field, Parameter}
 
--- ---- the number of an answer: 0 where nothing is refused
+-- ---- what is refused
 
 -- 6 for a field above its largest number
-abbrev pub field_number : Bool → ℕ
-field_number fits = cond fits 0 6
+abbrev pub field_checked : {A : Type 0} → Bool → A → Result A Refusal
+field_checked fits value = cond fits (Ok value) (Err Field)
 
 -- 7 for a parameter that is a NaN or outside its range
-abbrev pub parameter_number : Bool → ℕ
-parameter_number fits = cond fits 0 7
+abbrev pub parameter_checked : {A : Type 0} → Bool → A → Result A Refusal
+parameter_checked fits value = cond fits (Ok value) (Err Parameter)
 
--- the first that is not 0, in ascending order
-abbrev pub first_of : ℕ → ℕ → ℕ
-first_of zero other = other
-first_of (suc n) other = suc n
+-- a field and a parameter: the field first
+abbrev pub both_checked : {A : Type 0} → Bool → Bool → A → Result A Refusal
+both_checked field parameter value = cond field (parameter_checked parameter value) (Err Field)
 
 -- the largest numbers of a frequency
 unfoldable pub frequency_fits : ℕ → ℕ → ℕ → ℕ → Bool
@@ -47,75 +40,56 @@ frequency_fits mode coarse fine detune =
     && field_fits (operator_field Fine) fine
     && field_fits (operator_field Detune) detune
 
--- ---- the case and the value that a number stands for: 0 for a value, any other for that refusal
-
-abbrev pub level_for : ℕ → ℕ → Level
-level_for zero value = level.Value value
-level_for (suc n) value = level.Refused (suc n)
-
-abbrev pub converted_for : ℕ → Float → Converted
-converted_for zero value = converted.Value value
-converted_for (suc n) value = converted.Refused (suc n)
-
-abbrev pub delay_for : ℕ → Increments → Delay
-delay_for zero value = delayed.Value value
-delay_for (suc n) value = delayed.Refused (suc n)
-
-abbrev pub tuning_for : ℕ → Ratio → Tuning
-tuning_for zero value = tuned.Value value
-tuning_for (suc n) value = tuned.Refused (suc n)
-
 -- ---- the answers; a rate and a level have one limit in all four stages
 
-unfoldable pub operator_level_answer : ℕ → Level
-operator_level_answer n = level_for (field_number (field_fits (operator_field OutputLevel) n)) (operator_level n)
+unfoldable pub operator_level_answer : ℕ → Result ℕ Refusal
+operator_level_answer n = field_checked (field_fits (operator_field OutputLevel) n) (operator_level n)
 
-unfoldable pub pitch_envelope_level_answer : ℕ → Converted
+unfoldable pub pitch_envelope_level_answer : ℕ → Result Float Refusal
 pitch_envelope_level_answer n =
-    converted_for (field_number (field_fits (envelope_field (StageLevel 0)) n)) (pitch_envelope_level n)
+    field_checked (field_fits (envelope_field (StageLevel 0)) n) (pitch_envelope_level n)
 
-unfoldable pub operator_envelope_increment_answer : ℕ → Converted
+unfoldable pub operator_envelope_increment_answer : ℕ → Result Float Refusal
 operator_envelope_increment_answer rate =
-    converted_for (field_number (field_fits (envelope_field (Rate 0)) rate)) (operator_envelope_increment rate)
+    field_checked (field_fits (envelope_field (Rate 0)) rate) (operator_envelope_increment rate)
 
-unfoldable pub pitch_envelope_increment_answer : ℕ → Converted
+unfoldable pub pitch_envelope_increment_answer : ℕ → Result Float Refusal
 pitch_envelope_increment_answer rate =
-    converted_for (field_number (field_fits (envelope_field (Rate 0)) rate)) (pitch_envelope_increment rate)
+    field_checked (field_fits (envelope_field (Rate 0)) rate) (pitch_envelope_increment rate)
 
-unfoldable pub lfo_frequency_answer : ℕ → Converted
+unfoldable pub lfo_frequency_answer : ℕ → Result Float Refusal
 lfo_frequency_answer rate =
-    converted_for (field_number (field_fits (lfo_field lfo_sensitivity LfoRate) rate)) (lfo_frequency rate)
+    field_checked (field_fits (lfo_field lfo_sensitivity LfoRate) rate) (lfo_frequency rate)
 
-unfoldable pub lfo_delay_answer : ℕ → Delay
-lfo_delay_answer n = delay_for (field_number (field_fits (lfo_field lfo_sensitivity LfoDelay) n)) (lfo_delay n)
+unfoldable pub lfo_delay_answer : ℕ → Result Increments Refusal
+lfo_delay_answer n = field_checked (field_fits (lfo_field lfo_sensitivity LfoDelay) n) (lfo_delay n)
 
-unfoldable pub normalize_velocity_answer : Float → Converted
+unfoldable pub normalize_velocity_answer : Float → Result Float Refusal
 normalize_velocity_answer velocity =
-    converted_for (parameter_number (unit_fits velocity)) (normalized_velocity_of velocity)
+    parameter_checked (unit_fits velocity) (normalized_velocity_of velocity)
 
-unfoldable pub rate_scaling_answer : Float → ℕ → Converted
+unfoldable pub rate_scaling_answer : Float → ℕ → Result Float Refusal
 rate_scaling_answer note scaling =
-    converted_for
-    (first_of (field_number (field_fits (operator_field RateScaling) scaling)) (parameter_number (note_fits note)))
+    both_checked (field_fits (operator_field RateScaling) scaling) (note_fits note)
     (rate_scaling_of note scaling)
 
-unfoldable pub amp_mod_sensitivity_answer : ℕ → Converted
+unfoldable pub amp_mod_sensitivity_answer : ℕ → Result Float Refusal
 amp_mod_sensitivity_answer sensitivity =
-    converted_for (field_number (field_fits (operator_field AmplitudeSensitivity) sensitivity))
+    field_checked (field_fits (operator_field AmplitudeSensitivity) sensitivity)
     (amp_mod_sensitivity_of sensitivity)
 
-unfoldable pub pitch_mod_sensitivity_answer : ℕ → Converted
+unfoldable pub pitch_mod_sensitivity_answer : ℕ → Result Float Refusal
 pitch_mod_sensitivity_answer sensitivity =
-    converted_for (field_number (field_fits (lfo_field lfo_sensitivity PitchSensitivity) sensitivity))
+    field_checked (field_fits (lfo_field lfo_sensitivity PitchSensitivity) sensitivity)
     (pitch_mod_sensitivity_of sensitivity)
 
 -- the limits of its five numbers are those of a patch's: `five_fit` tells them one by one
-unfoldable pub keyboard_scaling_answer : Float → KeyboardScaling → Converted
+unfoldable pub keyboard_scaling_answer : Float → KeyboardScaling → Result Float Refusal
 keyboard_scaling_answer note k =
-    converted_for (first_of (field_number (scaling_fits k)) (parameter_number (note_fits note)))
+    both_checked (scaling_fits k) (note_fits note)
     (keyboard_scaling_of note k.left_depth k.right_depth k.left_curve k.right_curve k.break_point)
 
-unfoldable pub frequency_ratio_answer : ℕ → ℕ → ℕ → ℕ → Tuning
+unfoldable pub frequency_ratio_answer : ℕ → ℕ → ℕ → ℕ → Result Ratio Refusal
 frequency_ratio_answer mode coarse fine detune =
-    tuning_for (field_number (frequency_fits mode coarse fine detune))
+    field_checked (frequency_fits mode coarse fine detune)
     (frequency_ratio lut_pitch_ratio_high lut_pitch_ratio_low mode coarse fine detune)

@@ -1,97 +1,84 @@
-// The lines of a patch, a dump and a refusal, each led by the file's name if there is one.
+// The lines of a patch, a dump and a refusal, each led by the file's name if there is one. An error is that of a line
+// which could not be written.
 ghost use Rattle.std.specs.Prelude.{◌≡◌, length};
 
 use patch::Patch;
-use streams::Streams;
+use refusals::Refusal;
+use std::io;
+use streams::{Columns, Streams};
 
-fn print_identifier(to: Streams, name: &[u8], head: &[u8], identifier: u64) -> bool {
-    let mut digits = [0u8; 16];
-    let k = streams::hex(identifier, 16, &mut digits);
-    streams::print_line(to, name, head, &digits[..k])
-}
-
-// The line of a slot's patch. The answer says whether to go on.
-fn print_patch(to: Streams, name: &[u8], slot: usize, patch: Patch) -> bool {
-    let letters = patch.name;
-    let columns = streams::patch_columns(slot, letters);
-    let r = identity::identify(patch);
-    if r.number != 0 {
-        streams::tell_refusal(to, name, &columns, r.number);
-        return true;
+// The line of a slot's patch.
+fn print_patch(to: Streams, name: &[u8], slot: usize, patch: Patch) -> io::Result<()> {
+    let columns = Columns {
+        slot,
+        name: patch.name,
+    };
+    match identity::identify(patch) {
+        Ok(identifier) => {
+            streams::print_line(to, name, format_args!("{columns}{identifier:016x}"))
+        }
+        Err(refusal) => {
+            streams::tell_line(to, name, format_args!("{columns}{refusal}"));
+            Ok(())
+        }
     }
-    print_identifier(to, name, &columns, r.identifier)
 }
 
 // The line of a packed patch.
-fn print_packed(to: Streams, name: &[u8], slot: usize, bytes: &[u8]) -> bool {
+fn print_packed(to: Streams, name: &[u8], slot: usize, bytes: &[u8]) -> io::Result<()> {
     let patch = patch::unpack(Patch::new(), bytes).unwrap_or(Patch::new());
     print_patch(to, name, slot, patch)
 }
 
-fn print_bank(to: Streams, name: &[u8], dump: &[u8]) -> bool
+fn print_bank(to: Streams, name: &[u8], dump: &[u8]) -> io::Result<()>
     requires { length dump.now ≡ 4104 }
 {
-    for slot in 0..32usize {
-        if !print_packed(to, name, slot, bank::slot_part(dump, slot)) {
-            return false;
-        }
+    for slot in 0..32 {
+        print_packed(to, name, slot, bank::slot_part(dump, slot))?;
     }
-    true
-}
-
-// The refusal of what begins at a place of a file; standard input has no places.
-pub fn tell_refusal_at(to: Streams, name: &[u8], number: u8, place: u64) {
-    if name.len() == 0 {
-        streams::tell_refusal(to, name, b"", number);
-        return;
-    }
-    streams::tell_refusal_at(to, name, number, b", at byte ", place);
+    Ok(())
 }
 
 // Bytes of a file that begin no dump: the place of the first, and how many there are.
 pub fn tell_stray(to: Streams, name: &[u8], place: u64, count: u64) {
-    let mut text = [0u8; 96];
-    let a = streams::put(&mut text, 0, b"no dump begins at byte ");
-    let b = streams::put_decimal(&mut text, a, place);
-    let c = streams::put(&mut text, b, b", bytes passed over: ");
-    let mut digits = [0u8; 20];
-    let k = streams::decimal(count, &mut digits);
-    let end = streams::least(c, 96);
-    streams::tell_line(to, name, &text[..end], &digits[..k]);
+    streams::tell_line(
+        to,
+        name,
+        format_args!("no dump begins at byte {place}, bytes passed over: {count}"),
+    );
 }
 
 // The lines of a dump that begins at a place, which is validated once.
-pub fn print_dump(to: Streams, name: &[u8], dump: &[u8], place: u64) -> bool {
-    let number = bank::validate(dump);
-    if number != 0 {
-        tell_refusal_at(to, name, number, place);
-        return true;
+pub fn print_dump(to: Streams, name: &[u8], dump: &[u8], place: u64) -> io::Result<()> {
+    match bank::validate(dump) {
+        Ok(()) => print_bank(to, name, dump),
+        Err(refusal) => {
+            streams::tell_refusal_at(to, name, refusal, place);
+            Ok(())
+        }
     }
-    print_bank(to, name, dump)
 }
 
 // The line of a single-voice dump that begins at a place.
-pub fn print_single(to: Streams, name: &[u8], dump: &[u8], place: u64) -> bool {
-    let read = single::read(Patch::new(), dump);
-    if read.number != 0 {
-        tell_refusal_at(to, name, read.number, place);
-        return true;
+pub fn print_single(to: Streams, name: &[u8], dump: &[u8], place: u64) -> io::Result<()> {
+    match single::read(Patch::new(), dump) {
+        Ok(read) => print_patch(to, name, 0, read.patch),
+        Err(refused) => {
+            streams::tell_refusal_at(to, name, refused.refusal, place);
+            Ok(())
+        }
     }
-    let patch = read.patch;
-    print_patch(to, name, 0, patch)
 }
 
 // The lines of one patch or one dump.
-pub fn print_whole(to: Streams, name: &[u8], bytes: &[u8]) -> bool {
-    if bytes.len() < patch::SYX_SIZE {
-        streams::tell_refusal(to, name, b"", 1);
-        return true;
+pub fn print_whole(to: Streams, name: &[u8], bytes: &[u8]) -> io::Result<()> {
+    match bytes.len() {
+        patch::SYX_SIZE => print_packed(to, name, 0, bytes),
+        single::DUMP_SIZE => print_single(to, name, bytes, 0),
+        size if size < patch::SYX_SIZE => {
+            streams::tell_line(to, name, Refusal::ShortPatch);
+            Ok(())
+        }
+        _ => print_dump(to, name, bytes, 0),
     }
-    if bytes.len() == patch::SYX_SIZE {
-        return print_packed(to, name, 0, bytes);
-    }
-    if bytes.len() == single::DUMP_SIZE {
-        return print_single(to, name, bytes, 0);
-    }
-    print_dump(to, name, bytes, 0)
 }

@@ -16,16 +16,15 @@ mod messages;
 
 // Standard input holds one patch or one dump: what is longer is read to its end and has the wrong length however long
 // it is.
-fn standard_input(from: &mut Stdin, to: Streams) {
+fn standard_input(from: &mut Stdin, to: Streams) -> io::Result<()> {
     let mut buffer = [0u8; 65536];
-    let no_name = b"";
-    let Some(w) = files::begin(from, to, no_name, &mut buffer) else {
-        return;
+    let Some(w) = files::begin(from, to, b"", &mut buffer) else {
+        return Ok(());
     };
     if !w.ended {
         files::drain(from);
     }
-    lines::print_whole(to, no_name, streams::waiting(&buffer, w));
+    lines::print_whole(to, b"", w.waiting(&buffer))
 }
 
 // The file of a name. One that is no text cannot be opened.
@@ -36,42 +35,36 @@ fn opened<R: Files>(rt: &R, name: &[u8]) -> io::Result<R::File> {
     }
 }
 
-// The lines of a named file. The answer says whether to go on: it does not where a line could not be written.
-fn file<R: Files>(rt: &R, to: Streams, name: &[u8]) -> bool {
+// The lines of a named file.
+fn file<R: Files>(rt: &R, to: Streams, name: &[u8]) -> io::Result<()> {
     match opened(rt, name) {
         Ok(mut from) => files::print_file(&mut from, to, name),
         Err(error) => {
-            streams::tell_why(to, name, b"cannot be opened", &error);
-            true
+            streams::tell_why(to, name, "cannot be opened", &error);
+            Ok(())
         }
     }
 }
 
 // The file of each word, from the first on.
-fn each_file<R: Files + Env>(rt: &R, to: Streams) {
+fn each_file<R: Files + Env>(rt: &R, to: Streams) -> io::Result<()> {
     let mut path = [0u8; 4096];
     for word in 1..usize::MAX {
         match rt.arg(word, &mut path) {
-            Ok(n) => {
-                if !file(rt, to, &path[..n]) {
-                    return;
-                }
-            }
+            Ok(n) => file(rt, to, &path[..n])?,
             Err(FillError::TooLong) => {
-                streams::tell_line(to, b"", b"a file's name: ", b"File name too long");
+                streams::tell_line(to, b"", "a file's name: File name too long");
             }
-            Err(FillError::NotPresent) => return,
+            Err(FillError::NotPresent) => break,
         }
     }
+    Ok(())
 }
 
 // Whether the program was given a word.
 fn has_words<R: Env>(rt: &R) -> bool {
     let mut word = [0u8; 1];
-    match rt.arg(1, &mut word) {
-        Err(FillError::NotPresent) => false,
-        _ => true,
-    }
+    !matches!(rt.arg(1, &mut word), Err(FillError::NotPresent))
 }
 
 fn main(rt: HostRuntime) {
@@ -79,9 +72,12 @@ fn main(rt: HostRuntime) {
         out: rt.stdout(),
         err: rt.stderr(),
     };
-    if has_words(&rt) {
-        each_file(&rt, to);
+    let done = if has_words(&rt) {
+        each_file(&rt, to)
     } else {
-        standard_input(&mut rt.stdin(), to);
+        standard_input(&mut rt.stdin(), to)
+    };
+    if let Err(error) = done {
+        streams::fail(to, "standard output", &error);
     }
 }

@@ -2,6 +2,7 @@
 #![tactic(auto)]
 
 use judge_wire::{Answer, Fields};
+use refusals::Refusal;
 
 // The length of the call whose fields these are, its entry's byte included; 0 for no entry of this crate.
 pub fn length(entry: u8, mut fields: Fields<'_>) -> usize {
@@ -18,16 +19,22 @@ pub fn answer(entry: u8, fields: &mut Fields<'_>, out: &mut Answer<'_>) {
     let slot = fields.word() as usize;
     match entry {
         0x24 => out.byte(dump::checksum(bytes)),
-        0x25 => out.byte(bank::number(bytes, slot)),
+        0x25 => out.byte(told(bank::check(bytes, slot).err())),
         0x26 => {
-            out.byte(bank::number(bytes, slot));
-            out.slice(bank::part(bytes, slot));
+            let part = bank::part(bytes, slot);
+            out.byte(told(part.err()));
+            out.slice(part.unwrap_or(&[]));
         }
-        0x27 => out.slice(bank::read(bytes, slot)),
-        0x28 => out.byte(bank::validate(bytes)),
+        0x27 => out.slice(bank::read(bytes, slot).unwrap_or(&[])),
+        0x28 => out.byte(told(bank::validate(bytes).err())),
         _ => {
-            let opened = bank::channel(bytes);
-            out.bytes(&[opened.number, opened.channel]);
+            let channel = bank::channel(bytes);
+            out.bytes(&[told(channel.err()), channel.unwrap_or(0)]);
         }
     }
+}
+
+// The number of a refusal; 0 for none.
+fn told(refusal: Option<Refusal>) -> u8 {
+    refusal.map_or(0, |r| r.number())
 }

@@ -57,7 +57,14 @@ fn take(piece: &[u8], reading: &mut Reading, out: &mut Answer<'_>) {
 }
 
 fn end(receiver: &mut Receiver, out: &mut Answer<'_>) {
-    let done = bank_pieces::end(*receiver);
-    *receiver = done.receiver;
-    out.bytes(&[done.number, done.channel]);
+    match bank_pieces::end(*receiver) {
+        Ok(ended) => {
+            *receiver = ended.receiver;
+            out.bytes(&[0, ended.channel]);
+        }
+        Err(refused) => {
+            *receiver = refused.state;
+            out.bytes(&[refused.refusal.number(), 0]);
+        }
+    }
 }

@@ -1,7 +1,8 @@
 // The entries 30 to 46 (hex): the crates `dx_units`, `units`, `utils`, `sine` and `random`. The number of a refusal comes
 // first, and a refused value is written as 0.
-use dx_units::{Converted, Delay, Level, Mark, Ratio, Stepped, Tuning};
+use dx_units::{Increments, Mark, Ratio, Stepped};
 use judge_wire::{Answer, Fields};
+use refusals::Refusal;
 
 // The length of a call of the entry; 0 for no entry of this group.
 pub fn length(entry: u8) -> usize {
@@ -18,10 +19,19 @@ pub fn length(entry: u8) -> usize {
 // Writes what the call answers.
 pub fn answer(entry: u8, fields: &mut Fields<'_>, out: &mut Answer<'_>) {
     match entry {
-        0x31 => put_level(out, dx_units::operator_level(fields.byte())),
+        0x31 => {
+            let level = out.value(dx_units::operator_level(fields.byte()), 0);
+            out.byte(level);
+        }
         0x36 => put_delay(out, dx_units::lfo_delay(fields.byte())),
-        0x3c => put_tuning(out, frequency_ratio(fields)),
-        0x32..=0x35 | 0x37..=0x3b => put_converted(out, converted(entry, fields)),
+        0x3c => {
+            let ratio = out.value(frequency_ratio(fields), Ratio::Note(0.0));
+            put_ratio(out, ratio);
+        }
+        0x32..=0x35 | 0x37..=0x3b => {
+            let converted = out.value(converted(entry, fields), 0.0);
+            out.float(converted);
+        }
         _ => answer_value(entry, fields, out),
     }
 }
@@ -41,7 +51,7 @@ fn answer_value(entry: u8, fields: &mut Fields<'_>, out: &mut Answer<'_>) {
     }
 }
 
-fn converted(entry: u8, fields: &mut Fields<'_>) -> Converted {
+fn converted(entry: u8, fields: &mut Fields<'_>) -> Result<f32, Refusal> {
     match entry {
         0x37 => dx_units::normalize_velocity(fields.float()),
         0x38 => dx_units::rate_scaling(fields.float(), fields.byte()),
@@ -50,7 +60,7 @@ fn converted(entry: u8, fields: &mut Fields<'_>) -> Converted {
     }
 }
 
-fn converted_field(entry: u8, field: u8) -> Converted {
+fn converted_field(entry: u8, field: u8) -> Result<f32, Refusal> {
     match entry {
         0x32 => dx_units::pitch_envelope_level(field),
         0x33 => dx_units::operator_envelope_increment(field),
@@ -72,7 +82,7 @@ fn value(entry: u8, fields: &mut Fields<'_>) -> f32 {
     }
 }
 
-fn frequency_ratio(fields: &mut Fields<'_>) -> Tuning {
+fn frequency_ratio(fields: &mut Fields<'_>) -> Result<Ratio, Refusal> {
     let [mode, coarse, fine, detune] = fields.bytes::<4>();
     dx_units::frequency_ratio(mode, coarse, fine, detune)
 }
@@ -104,8 +114,8 @@ fn table_entry(table: u8, index: u32) -> f32 {
         0 => at(&sine::lut_sine(), place),
         1 => at(&units::lut_pitch_ratio_high(), place),
         2 => at(&units::lut_pitch_ratio_low(), place),
-        3 => sensitivity(dx_units::amp_mod_sensitivity(index.min(255) as u8)),
-        4 => sensitivity(dx_units::pitch_mod_sensitivity(index.min(255) as u8)),
+        3 => dx_units::amp_mod_sensitivity(index.min(255) as u8).unwrap_or(0.0),
+        4 => dx_units::pitch_mod_sensitivity(index.min(255) as u8).unwrap_or(0.0),
         5 => at(&dx_units::lut_coarse(), place),
         6 => at(&dx_units::lut_cube_root(), place),
         _ => 0.0,
@@ -119,20 +129,6 @@ fn at(table: &[f32], place: usize) -> f32 {
 // A number of the level chart; 0 past its end.
 fn chart_entry(place: usize) -> u8 {
     dx_units::level_chart().get(place).copied().unwrap_or(0)
-}
-
-fn sensitivity(x: Converted) -> f32 {
-    match x {
-        Converted::Value(value) => value,
-        Converted::Refused(_) => 0.0,
-    }
-}
-
-fn put_level(out: &mut Answer<'_>, x: Level) {
-    match x {
-        Level::Value(level) => out.bytes(&[0, level]),
-        Level::Refused(number) => out.bytes(&[number, 0]),
-    }
 }
 
 fn put_stepped(out: &mut Answer<'_>, x: Stepped) {
@@ -149,43 +145,13 @@ pub fn put_mark(out: &mut Answer<'_>, mark: Mark) {
     });
 }
 
-fn put_converted(out: &mut Answer<'_>, x: Converted) {
-    match x {
-        Converted::Value(value) => {
-            out.byte(0);
-            out.float(value);
-        }
-        Converted::Refused(number) => {
-            out.byte(number);
-            out.float(0.0);
-        }
-    }
-}
-
-fn put_delay(out: &mut Answer<'_>, x: Delay) {
-    match x {
-        Delay::Value(increments) => {
-            out.byte(0);
-            out.floats(&[increments.first, increments.second]);
-        }
-        Delay::Refused(number) => {
-            out.byte(number);
-            out.eight(0);
-        }
-    }
-}
-
-fn put_tuning(out: &mut Answer<'_>, x: Tuning) {
-    match x {
-        Tuning::Value(ratio) => {
-            out.byte(0);
-            put_ratio(out, ratio);
-        }
-        Tuning::Refused(number) => {
-            out.byte(number);
-            out.bytes(&[0; 5]);
-        }
-    }
+fn put_delay(out: &mut Answer<'_>, x: Result<Increments, Refusal>) {
+    let zeros = Increments {
+        first: 0.0,
+        second: 0.0,
+    };
+    let increments = out.value(x, zeros);
+    out.floats(&[increments.first, increments.second]);
 }
 
 // Writes a ratio: 0 for one to the note, 1 for one to 1 Hz, and its number.

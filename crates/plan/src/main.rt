@@ -3,21 +3,21 @@
 // wrong length.
 #![tactic(auto)]
 
+use refusals::Refusal;
 use std::io;
 use std::io::Write;
 use streams::Streams;
 
 // The refusal in words. 3 and 4 name their operator, 2 names none.
-fn tell_if_refused(to: Streams, bytes: &[u8]) {
-    let p = algorithms::compile_row(bytes.len(), algorithms::six_bytes(bytes));
-    if p.number == 0 {
-        return;
+fn tell_if_refused(to: Streams, row: &[u8]) {
+    match algorithms::compile_row(row.len(), algorithms::six_bytes(row)) {
+        Ok(_) => {}
+        Err(Refusal::WrongTable) => streams::tell_line(to, b"", Refusal::WrongTable),
+        Err(refusal) => {
+            let operator = refusal.place();
+            streams::tell_line(to, b"", format_args!("{refusal}, at operator {operator}"));
+        }
     }
-    if p.number == 2 {
-        streams::tell_refusal(to, b"", b"", 2);
-        return;
-    }
-    streams::tell_refusal_at(to, b"", p.number, b", at operator ", p.at as u64);
 }
 
 // The plan of a row, and in words why it is refused.

@@ -46,13 +46,16 @@ fn take(to: Streams, buffer: &[u8], patch: &mut [u8; 128], run: &mut Run) -> io:
 
 // Whether the dump was sound.
 fn say_end(to: Streams, receiver: Receiver) -> io::Result<()> {
-    let e = bank_pieces::end(receiver);
-    if e.number != 0 {
-        streams::tell_refusal(to, b"", b"", e.number);
-        return Ok(());
+    match bank_pieces::end(receiver) {
+        Ok(ended) => {
+            let channel = ended.channel;
+            streams::print_line(to, b"", format_args!("sound, channel {channel}"))
+        }
+        Err(refused) => {
+            streams::tell_line(to, b"", refused.refusal);
+            Ok(())
+        }
     }
-    let channel = e.channel;
-    streams::print_line(to, b"", format_args!("sound, channel {channel}"))
 }
 
 // One read. A failed one is told, and where nothing more came the dump is over.

@@ -81,7 +81,10 @@ fn is_over(to: Streams, script: &[u8], done: Progress, more: bool) -> io::Result
     let call = calls.wrapping_add(1);
     if done.unknown {
         let entry = script.get(done.at).copied().unwrap_or(0);
-        say_wrong(to, format_args!("script names unknown entry {entry} in call {call}"))?;
+        say_wrong(
+            to,
+            format_args!("script names unknown entry {entry} in call {call}"),
+        )?;
         return Ok(true);
     }
     if more {
@@ -152,7 +155,14 @@ fn replay(from: &mut Stdin, to: Streams) -> io::Result<()> {
         if !run.going {
             break;
         }
-        turn(from, to, &mut script, &mut registers, &mut answers, &mut run)?;
+        turn(
+            from,
+            to,
+            &mut script,
+            &mut registers,
+            &mut answers,
+            &mut run,
+        )?;
     }
     Ok(())
 }

@@ -7,13 +7,17 @@ use native.Mathlib.Omega.{arith}
 use borrow.Author.Tests.{eq-eqb, ne_eqb, eqb-true, eqb-false}
 use lib.Dec.{eqb, leb}
 use lib.ListN.{length, replicate}
-use Rattle.dump.specs.declared.Opened.{Opened}
-use Rattle.dump.specs.Dump.{yamaha_form, sum_place, size_of, channel_byte, data_of, dump_number, opened_of}
-use Rattle.dump.proofs.Numbers.{sound}
-use Rattle.patch.specs.declared.Patch.{Patch}
 use Rattle.std.specs.Prelude.{Result, Ok, Err}
+use Rattle.std.specs.Result.{result_and}
+use Rattle.refusals.specs.declared.Refusal.{Refusal}
+use Rattle.refusals.specs.declared.Refusal.TheVariants.{ShortPatch, WrongTable, NoRenderer, UnsetBuffer, SampleRate}
+use Rattle.refusals.specs.declared.Refusal.TheVariants.{Field, Parameter, BlockLength, ForeignState, WrongLength}
+use Rattle.refusals.specs.declared.Refusal.TheVariants.{FrameByte, HighByte, Checksum}
+use Rattle.refusals.specs.Answer.{number_of as refusal_number, number_given}
+use Rattle.dump.specs.Dump.{channel_byte, data_of, dump_check, dump_channel}
+use Rattle.dump.proofs.Numbers.{sound, told, not_told}
+use Rattle.patch.specs.declared.Patch.{Patch}
 use Rattle.refusals.specs.declared.Refused.{Refused}
-use Rattle.refusals.specs.Answer.{number_of as refusal_number}
 use Rattle.patch.specs.Layout.{lfo_sensitivity}
 use Rattle.patch.specs.Form.{zero_patch}
 use Rattle.patch.specs.Packed.{patch_fits, unpack_of}
@@ -22,12 +26,29 @@ use Rattle.patch_packer.specs.Packing.{packed, pack_of}
 use Rattle.single.specs.declared.Parsed.{Parsed}
 use Rattle.single.specs.declared.Written.{Written}
 use Rattle.dump_writer.specs.Written.{written_of}
-use Rattle.single.specs.Single.{single_form, data_bytes, patch_in, single_fits, read_number, read_of, refused_with}
+use Rattle.single.specs.Single.{single_form, data_bytes, patch_in, single_fits, read_check, read_number, read_of}
+use Rattle.single.specs.Single.{refused_with}
 use Rattle.single.specs.Single.{write_of, from_packed_of, to_packed_of}
 
+-- no refusal has the number 0
+numbered : (x : Refusal) → refusal_number x ≡ 0 → ⊥
+numbered ShortPatch e = omega arith
+numbered WrongTable e = omega arith
+numbered (NoRenderer at) e = omega arith
+numbered (UnsetBuffer at) e = omega arith
+numbered SampleRate e = omega arith
+numbered Field e = omega arith
+numbered Parameter e = omega arith
+numbered BlockLength e = omega arith
+numbered ForeignState e = omega arith
+numbered WrongLength e = omega arith
+numbered FrameByte e = omega arith
+numbered HighByte e = omega arith
+numbered Checksum e = omega arith
+
 -- a sound dump has 163 bytes
-pub sound_length : (dump : List ℕ) → dump_number single_form dump ≡ 0 → length dump ≡ 163
-unfolding single_form yamaha_form size_of sum_place
+pub sound_length : (dump : List ℕ) → dump_check single_form dump ≡ Ok tt → length dump ≡ 163
+unfolding single_form
 sound_length dump e = (sound single_form dump e).long
 
 -- what fits here is what 6 accepts everywhere
@@ -41,30 +62,30 @@ module _ (dump : List ℕ) where
   abbrev voice : Patch
   voice = patch_in (data_of single_form dump)
 
-  number_of_dump : (dump_number single_form dump ≡ 0 → ⊥) → read_number dump ≡ dump_number single_form dump
-  unfolding read_number
-  number_of_dump h = rw (ne_eqb (dump_number single_form dump) 0 h)
+  number_of_dump : (x : Refusal) → dump_check single_form dump ≡ Err x → read_number dump ≡ refusal_number x
+  unfolding read_number read_check
+  number_of_dump x e = rw e
 
-  module _ (zero_is : dump_number single_form dump ≡ 0) where
+  module _ (accepted : dump_check single_form dump ≡ Ok tt) where
     number_6 : single_fits voice ≡ false → read_number dump ≡ 6
-    unfolding read_number
-    number_6 f = rw (eq-eqb (dump_number single_form dump) 0 zero_is, f)
+    unfolding read_number read_check
+    number_6 f = rw (accepted, f)
 
     pub number_0 : single_fits voice ≡ true → read_number dump ≡ 0
-    unfolding read_number
-    number_0 f = rw (eq-eqb (dump_number single_form dump) 0 zero_is, f)
+    unfolding read_number read_check
+    number_0 f = rw (accepted, f)
 
   -- what number 0 says: the dump is sound, and its patch fits
-  pub read_sound : read_number dump ≡ 0 → (dump_number single_form dump ≡ 0) × (single_fits voice ≡ true)
-  unfolding read_number
-  read_sound e = at (eqb (dump_number single_form dump) 0) (single_fits voice) refl refl e
+  pub read_sound : read_number dump ≡ 0 → (dump_check single_form dump ≡ Ok tt) × (single_fits voice ≡ true)
+  unfolding read_number read_check
+  read_sound e = at (dump_check single_form dump) (single_fits voice) refl refl e
     where
-      at : (b f : Bool) → eqb (dump_number single_form dump) 0 ≡ b → single_fits voice ≡ f
-          → ◌≡◌ {A = ℕ} (cond b (cond f 0 6) (dump_number single_form dump)) 0
-          → (dump_number single_form dump ≡ 0) × (single_fits voice ≡ true)
-      at true true b f z = (eqb-true (dump_number single_form dump) 0 b, f)
-      at true false b f z = let w : ⊥ = omega arith in absurd w
-      at false f b q z = absurd (eqb-false (dump_number single_form dump) 0 b z)
+      at : (r : Result (Unit {0}) Refusal) (f : Bool) → dump_check single_form dump ≡ r → single_fits voice ≡ f
+          → number_given (result_and r (cond f (Ok (tt {0})) (Err Field))) ≡ 0
+          → (dump_check single_form dump ≡ Ok tt) × (single_fits voice ≡ true)
+      at (Ok u) true r f z = (r, f)
+      at (Ok u) false r f z = let w : ⊥ = omega arith in absurd w
+      at (Err x) f r q z = absurd (numbered x z)
 
   module _ (p : Patch) where
     pub read_0 : read_number dump ≡ 0
@@ -78,34 +99,28 @@ module _ (dump : List ℕ) where
     read_refused h = rw (ne_eqb (read_number dump) 0 h)
 
     -- refused for the dump, refused for the patch, and read
-    module _ (o : Opened) (e : o ≡ opened_of single_form dump) where
-      number_is : o.number ≡ dump_number single_form dump
-      unfolding opened_of
-      number_is = ap (λ (x : Opened). x.number) e
+    pub dump_refused : (x : Refusal) → Err x ≡ dump_channel single_form dump
+        → record { number = refusal_number x; channel = 0; patch = p } ≡ read_of p dump
+    dump_refused x e =
+        let n = number_of_dump x (not_told single_form dump x e) in
+        ap (λ (k : ℕ). record { number = k; channel = 0; patch = p }) (sym n)
+        ∙ read_refused (λ z. numbered x (sym n ∙ z))
 
-      pub opened_length : o.number ≡ 0 → length dump ≡ 163
-      opened_length z = sound_length dump (sym number_is ∙ z)
+    module _ (n : ℕ) (e : Ok n ≡ dump_channel single_form dump) where
+      pub opened_length : length dump ≡ 163
+      opened_length = sound_length dump (told single_form dump n e).0
 
-      pub dump_refused : (o.number ≡ 0 → ⊥) → record { number = o.number; channel = 0; patch = p } ≡ read_of p dump
-      dump_refused h =
-          let n = number_of_dump (λ z. h (number_is ∙ z)) in
-          ap (λ (k : ℕ). record { number = k; channel = 0; patch = p }) (number_is ∙ sym n)
-          ∙ read_refused (λ z. h (number_is ∙ sym n ∙ z))
-
-      module _ (z : o.number ≡ 0) (v : Patch) (v-is : v ≡ voice) (b : Bool) (b-is : b ≡ single_fits v) where
+      module _ (v : Patch) (v-is : v ≡ voice) (b : Bool) (b-is : b ≡ single_fits v) where
         pub patch_refused : b ≡ false → record { number = 6; channel = 0; patch = p } ≡ read_of p dump
         patch_refused f =
-            let n = number_6 (sym number_is ∙ z) (ap single_fits (sym v-is) ∙ sym b-is ∙ f) in
-            ap (λ (k : ℕ). record { number = k; channel = 0; patch = p }) (sym n)
+            let k = number_6 (told single_form dump n e).0 (ap single_fits (sym v-is) ∙ sym b-is ∙ f) in
+            ap (λ (k : ℕ). record { number = k; channel = 0; patch = p }) (sym k)
             ∙ read_refused (λ q. let w : ⊥ = omega arith in absurd w)
 
-        pub patch_read : b ≡ true → record { number = 0; channel = o.channel; patch = v } ≡ read_of p dump
-        unfolding opened_of
+        pub patch_read : b ≡ true → record { number = 0; channel = n; patch = v } ≡ read_of p dump
         patch_read f =
-            let d : dump_number single_form dump ≡ 0 = sym number_is ∙ z in
-            let c : o.channel ≡ channel_byte dump =
-            ap (λ (x : Opened). x.channel) e ∙ rw (eq-eqb (dump_number single_form dump) 0 d) in
-            rw (c, v-is) (read_0 (number_0 d (ap single_fits (sym v-is) ∙ sym b-is ∙ f)))
+            let t = told single_form dump n e in
+            rw (← t.1, v-is) (read_0 (number_0 t.0 (ap single_fits (sym v-is) ∙ sym b-is ∙ f)))
 
 -- the number that is read
 pub number_read : (p : Patch) (dump : List ℕ) → (read_of p dump).number ≡ read_number dump

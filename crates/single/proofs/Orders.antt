@@ -8,7 +8,7 @@ use native.Mathlib.Omega.{arith}
 use borrow.Author.Tests.{leb-true}
 use lib.Dec.{eqb, leb}
 use lib.ListN.{length}
-use Rattle.dump.specs.Dump.{fixed, channel_row, yamaha_form, largest_of}
+use Rattle.dump.specs.Dump.{fixed, channel_row, largest_of}
 use Rattle.patch.specs.declared.Patch.{Patch}
 use Rattle.patch.specs.Layout.{later, envelope_field, scaling_field, operator_field, lfo_field, field_of}
 use Rattle.patch.specs.Layout.{Place, operator_names, envelope_names, scaling_names, lfo_names, letters, shared_names}
@@ -29,7 +29,7 @@ use Rattle.single.proofs.Turns.{turned_low}
 -- the form's bytes, as the request writes them: F0 43 0n 00 01 1B
 pub single_header : single_form.header
     ≡ fixed 0xF0 ∷ fixed 0x43 ∷ channel_row ∷ fixed 0x00 ∷ fixed 0x01 ∷ fixed 0x1B ∷ []
-unfolding single_form yamaha_form
+unfolding single_form
 single_header = refl
 
 -- a dump's order is 0 to 154: no field stands there twice

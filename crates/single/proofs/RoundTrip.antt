@@ -1,13 +1,14 @@
 -- Single-voice dumps, there and back: reading what was written gives the patch and the channel, writing what was read
 -- gives the dump, and so does going across to the packed form and back, either way. Assumes nothing.
-use mathlib.Core.Path.{◌≡◌, sym, ◌∙◌, ap, ap₂}
+use mathlib.Core.Path.{◌≡◌, sym, ◌∙◌, ap, ap₂, subst}
 use mathlib.Core.Bool.{true, and-eq-true_iff}
 use mathlib.Core.List.{List}
 use Prim.Native.Nat.{ℕ, ◌≤◌}
 use borrow.Author.Tests.{eqb-true, le-leb, le-ltb}
 use lib.Dec.{eqb}
 use lib.ListN.{length, take}
-use Rattle.dump.specs.Dump.{channel_byte, data_of, dump_number}
+use Rattle.std.specs.Prelude.{Ok}
+use Rattle.dump.specs.Dump.{yamaha_form, channel_byte, data_of, dump_check}
 use Rattle.dump.proofs.Channels.{sound_channel}
 use Rattle.dump_writer.specs.Written.{written_of}
 use Rattle.dump_writer.proofs.Written.{channel_written, data_written, sound_written, data_length, written_of_sound}
@@ -18,7 +19,6 @@ use Rattle.patch.specs.Packed.{within, unpacked, patch_fits, unpack_of}
 use Rattle.patch.proofs.Reading.{unpacked_fits}
 use Rattle.patch_packer.specs.Packing.{packed, Clean}
 use Rattle.patch_packer.proofs.RoundTrip.{unpacked_of_packed, packed_of_unpacked, length_packed}
-use Rattle.std.specs.Prelude.{Ok}
 use Rattle.single.specs.declared.Parsed.{Parsed}
 use Rattle.single.specs.declared.Written.{Written}
 use Rattle.single.specs.declared.Repacked.{Repacked}
@@ -49,15 +49,18 @@ module _ (p : Patch) (channel : ℕ) (fits : single_fits p ≡ true) (to : chann
   unfolding single_form
   data_back = rw (← length_data p) (data_written 0x00 channel (data_bytes p))
 
-  sound_back : dump_number single_form dump ≡ 0
+  sound_back : dump_check single_form dump ≡ Ok tt
   unfolding single_form
   sound_back =
-      rw (← length_data p)
-      (sound_written 0x00 channel (data_bytes p) to (data_low p (fits_everywhere p fits)))
+      subst
+      (λ (k : ℕ). dump_check (yamaha_form 0x00 k) (written_of (yamaha_form 0x00 k) channel (data_bytes p)) ≡ Ok tt)
+      (length_data p) (sound_written 0x00 channel (data_bytes p) to (data_low p (fits_everywhere p fits)))
 
   channel_back : channel_byte dump ≡ channel
   unfolding single_form
-  channel_back = rw (← length_data p) (channel_written 0x00 channel (data_bytes p))
+  channel_back =
+      subst (λ (k : ℕ). channel_byte (written_of (yamaha_form 0x00 k) channel (data_bytes p)) ≡ channel) (length_data p)
+      (channel_written 0x00 channel (data_bytes p))
 
   module _ (shaped : Shaped p) where
     patch_back : patch_in (data_of single_form dump) ≡ p
@@ -81,7 +84,7 @@ module _ (dump : List ℕ) (zero_is : read_number dump ≡ 0) where
   abbrev channel : ℕ
   channel = channel_byte dump
 
-  sound : dump_number single_form dump ≡ 0
+  sound : dump_check single_form dump ≡ Ok tt
   sound = (read_sound dump zero_is).0
 
   fits : single_fits voice ≡ true

@@ -3,8 +3,11 @@
 -- Only where a field stands is said here. To be believed, but for the turn of an operator's fields at the end.
 use Rattle.std.specs.Prelude.{Bool, cond, ◌&&◌, List, [], ◌∷◌, ◌++◌, map, ℕ, zero, suc, ◌+◌, ◌-◌, ◌%◌}
 use Rattle.std.specs.Prelude.{get_or, replicate, eqb, leb, ltb, Result, Ok, Err}
+use Rattle.std.specs.Result.{result_and}
+use Rattle.refusals.specs.declared.Refusal.{Refusal}
+use Rattle.refusals.specs.declared.Refusal.TheVariants.{Field}
 use Rattle.dump.specs.declared.Form.{Form}
-use Rattle.dump.specs.Dump.{yamaha_form, channel_byte, data_of, dump_number}
+use Rattle.dump.specs.Dump.{yamaha_form, channel_byte, data_of, dump_check}
 use Rattle.dump_writer.specs.Written.{written_of}
 use Rattle.patch.specs.declared.Patch.{Patch}
 use Rattle.patch.specs.Layout.{OperatorName, Stage, Scaling, RateScaling, Detune, AmplitudeSensitivity}
@@ -15,7 +18,7 @@ use Rattle.patch.specs.Positions.{position}
 use Rattle.patch.specs.Packed.{patch_fits, unpack_of}
 use Rattle.patch_packer.specs.Packing.{packed}
 use Rattle.refusals.specs.declared.Refused.{Refused}
-use Rattle.refusals.specs.Answer.{number_of as refusal_number}
+use Rattle.refusals.specs.Answer.{number_of as refusal_number, number_given}
 use Rattle.single.specs.declared.Parsed.{Parsed}
 use Rattle.single.specs.declared.Written.{Written}
 use Rattle.single.specs.declared.Repacked.{Repacked}
@@ -52,10 +55,13 @@ unfoldable pub single_fits : Patch → Bool
 single_fits p = patch_fits p && leb p.modulations.pitch_mod_sensitivity lfo_sensitivity
 
 -- READING: 10 to 13 for the dump, then 6 for the patch in it; refused, channel 0 and the patch that was handed in
+unfoldable pub read_check : List ℕ → Result (Unit {0}) Refusal
+read_check dump =
+    result_and (dump_check single_form dump)
+    (cond (single_fits (patch_in (data_of single_form dump))) (Ok tt) (Err Field))
+
 unfoldable pub read_number : List ℕ → ℕ
-read_number dump =
-    cond (eqb (dump_number single_form dump) 0) (cond (single_fits (patch_in (data_of single_form dump))) 0 6)
-    (dump_number single_form dump)
+read_number dump = number_given (read_check dump)
 
 unfoldable pub read_of : Patch → List ℕ → Parsed
 read_of p dump =

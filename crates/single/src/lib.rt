@@ -98,14 +98,16 @@ fn patch_in(dump: &[u8]) -> Patch
 pub fn read(patch: Patch, dump: &[u8]) -> Parsed
     ensures { result ≡ read_of patch dump.now }
 {
-    let opened = dump::channel(dump, single_form());
-    if opened.number != 0 {
-        return Parsed {
-            number: opened.number,
-            channel: 0,
-            patch,
-        };
-    }
+    let channel = match dump::channel(dump, single_form()) {
+        Ok(channel) => channel,
+        Err(refusal) => {
+            return Parsed {
+                number: refusal.number(),
+                channel: 0,
+                patch,
+            };
+        }
+    };
     let read = patch_in(dump);
     if !fits(read) {
         return Parsed {
@@ -116,7 +118,7 @@ pub fn read(patch: Patch, dump: &[u8]) -> Parsed
     }
     Parsed {
         number: 0,
-        channel: opened.channel,
+        channel,
         patch: read,
     }
 }

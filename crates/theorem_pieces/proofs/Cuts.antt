@@ -10,15 +10,21 @@ use borrow.Author.Tests.{leb-true, eq-eqb, ne_eqb, le-leb, lt-leb, lt-ltb, le-lt
 use lib.Dec.{leb, ltb}
 use lib.ListN.{length, get_or, take, drop, length-drop, take-append-drop}
 use lib.Seq.{take-length, length-take-le}
-use Rattle.dump.specs.Dump.{dump_number, opened_of, data_of, sum_byte, largest_of, size_of, sum_place}
-use Rattle.dump.specs.Dump.{yamaha_form}
-use Rattle.bank.specs.Bank.{bank_form, slot_of, part_of, number_of, validate_of, channel_of}
-use Rattle.dump.proofs.Numbers.{is_10, sound}
+use Rattle.std.specs.Prelude.{Result, Ok, Err}
+use Rattle.std.specs.Result.{result_and, result_map_both}
+use Rattle.refusals.specs.declared.Refusal.{Refusal}
+use Rattle.refusals.specs.declared.Refusal.TheVariants.{ForeignState}
+use Rattle.refusals.specs.Answer.{refused}
+use Rattle.dump.specs.Dump.{channel_byte, dump_check, largest_of, size_of}
+use Rattle.bank.specs.Bank.{bank_form, slot_of, part_of, validate_of, channel_of}
+use Rattle.dump.proofs.Numbers.{is_short, sound}
+use Rattle.bank.proofs.Parts.{part_of_sound}
 use Rattle.bank_pieces.specs.declared.Receiver.{Receiver}
 use Rattle.bank_pieces.specs.Pieces.{Held, Took, possible, counting, missing, completes, takes, took, take_of}
-use Rattle.bank_pieces.specs.Pieces.{closing, end_of, frame_with, is_right}
+use Rattle.bank_pieces.specs.Pieces.{closing, closed, end_of, frame_with, is_right}
 use Rattle.theorem_pieces.specs.Cuts.{Line, begun, told, called, called_all, giving, given, given_all}
 use Rattle.theorem_pieces.specs.Cuts.{together, run_count, runs_below, runs_of, parts_below, Agrees}
+use Rattle.theorem_pieces.specs.Cuts.{told_at_end, after_end}
 use Rattle.theorem_pieces.proofs.Frames.{frame_from, frame_right, frame_channel}
 use Rattle.theorem_pieces.proofs.Sums.{sum_low, sum_right}
 use Rattle.theorem_pieces.proofs.Known.{Known, known_first, sum_behind, sum_none}
@@ -174,7 +180,7 @@ given_told l (piece ∷ pieces) t =
 
 -- THE CLOSING ANSWER is that of the reader of whole banks
 size_is : size_of bank_form ≡ 4104
-unfolding size_of sum_place bank_form yamaha_form
+unfolding bank_form
 size_is = refl
 
 module _ (xs : List ℕ) (h : Held) (k : Known xs h) where
@@ -187,9 +193,9 @@ module _ (xs : List ℕ) (h : Held) (k : Known xs h) where
   abbrev sum : ℕ
   sum = get_or xs 4102 0
 
-  -- of as many bytes as a bank has, both numbers by the same tests
+  -- of as many bytes as a bank has, both answers by the same tests
   closing_whole : length xs ≡ 4104 → closing r ≡ validate_of xs
-  unfolding closing validate_of dump_number data_of sum_byte size_of sum_place bank_form yamaha_form
+  unfolding closing dump_check bank_form
   closing_whole e =
       rw (
         eq-eqb r.count 4104 (omega arith),
@@ -205,39 +211,35 @@ module _ (xs : List ℕ) (h : Held) (k : Known xs h) where
         | no m ↦ rw (lt-leb (largest_of bytes) 127 (omega arith))
       ])
 
-  -- any other length is 10
+  -- any other length is refused
   closing_short : (length xs ≡ 4104 → ⊥) → closing r ≡ validate_of xs
-  unfolding closing validate_of
+  unfolding closing
   closing_short d =
-      rw (ne_eqb r.count 4104 (λ e. d (omega arith))) (is_10 bank_form xs (λ e. d (e ∙ size_is)))
+      rw (ne_eqb r.count 4104 (λ e. d (omega arith))) (is_short bank_form xs (λ e. d (e ∙ size_is)))
 
   -- so of any bytes
   pub known_closing : closing r ≡ validate_of xs
   known_closing = elim (ℕ_discrete (length xs) 4104) [ yes e ↦ closing_whole e | no d ↦ closing_short d ]
 
-  -- the end gives the number of the whole bank
-  pub known_number : (end_of r).number ≡ validate_of xs
+  -- the end tells what the reader of whole banks tells
+  pub known_ending : told_at_end (end_of r) ≡ channel_of xs
   unfolding end_of
-  known_number = rw (known_possible xs h k) known_closing
-
-  -- and its channel
-  pub known_channel : (end_of r).channel ≡ (channel_of xs).channel
-  unfolding end_of channel_of opened_of validate_of
-  known_channel =
-      rw (known_possible xs h k, known_closing)
-      (elim (ℕ_discrete (dump_number bank_form xs) 0) [
-        | yes z ↦
-            let s = sound bank_form xs z in
-            rw (eq-eqb (dump_number bank_form xs) 0 z) (k.framing ∙ frame_channel xs (s.long ∙ size_is) s.right)
-        | no d ↦ rw (ne_eqb (dump_number bank_form xs) 0 d)
-      ])
+  known_ending = rw (known_possible xs h k, known_closing) (at (validate_of xs) refl)
+    where
+      at : (v : Result (Unit {0}) Refusal) → validate_of xs ≡ v
+          → told_at_end (result_map_both (λ u. record { receiver = closed r; channel = r.frame })
+          (λ e. record { refusal = e; state = closed r }) v)
+          ≡ result_and v (Ok (channel_byte xs))
+      at (Ok u) e =
+          let s = sound bank_form xs e in
+          rw (k.framing, frame_channel xs (s.long ∙ size_is) s.right)
+      at (Err x) e = refl
 
 -- A LINE of which so much is known agrees with its bytes
 told_agrees : (l : Line) → Told l → Agrees l l.bytes
 told_agrees l t = record {
   reported = t.tells;
-  number = known_number l.bytes (held l) t.known;
-  channel = known_channel l.bytes (held l) t.known;
+  ending = known_ending l.bytes (held l) t.known;
 }
 
 -- ANY CALLS, whose rests are given again or not: the line agrees with the bytes that were taken
@@ -257,27 +259,25 @@ any_cut patch w pieces =
 pub cuts_agree : (p q : List ℕ) → length p ≡ 128 → length q ≡ 128 → (one other : List (List ℕ))
     → together one ≡ together other
     → ((given_all (begun p) one).reports ≡ (given_all (begun q) other).reports)
-    × ((end_of (given_all (begun p) one).receiver).number ≡ (end_of (given_all (begun q) other).receiver).number)
-    × ((end_of (given_all (begun p) one).receiver).channel ≡ (end_of (given_all (begun q) other).receiver).channel)
+    × (told_at_end (end_of (given_all (begun p) one).receiver)
+    ≡ told_at_end (end_of (given_all (begun q) other).receiver))
 cuts_agree p q u v one other e =
     let a = any_cut p u one in
     let b = any_cut q v other in (
       a.reported ∙ ap runs_of e ∙ sym b.reported,
-      a.number ∙ ap validate_of e ∙ sym b.number,
-      a.channel ∙ ap (λ (bs : List ℕ). (channel_of bs).channel) e ∙ sym b.channel,
+      a.ending ∙ ap channel_of e ∙ sym b.ending,
     )
 
 -- IN A SOUND DUMP the runs are the bank's own parts
-own_part : (xs : List ℕ) (n : ℕ) → validate_of xs ≡ 0 → n ≤ 31 → slot_of xs n ≡ part_of xs n
-unfolding part_of number_of
-own_part xs n z l = rw (le-leb n 31 l, z)
+own_part : (xs : List ℕ) (n : ℕ) → validate_of xs ≡ Ok tt → n ≤ 31 → Ok (slot_of xs n) ≡ part_of xs n
+own_part xs n z l = sym (part_of_sound xs z n l)
 
 -- one after the other
-own_parts : (xs : List ℕ) (n : ℕ) → validate_of xs ≡ 0 → n ≤ 32 → runs_below xs n ≡ parts_below xs n
+own_parts : (xs : List ℕ) (n : ℕ) → validate_of xs ≡ Ok tt → n ≤ 32 → runs_below xs n ≡ parts_below xs n
 unfolding runs_below parts_below
 own_parts xs zero z l = refl
 own_parts xs (suc n) z l =
-    rw (own_parts xs n z (omega arith), own_part xs n z (omega arith))
+    rw (own_parts xs n z (omega arith), ← own_part xs n z (omega arith))
 
 -- and there are 32
 whole_runs : (xs : List ℕ) → length xs ≡ 4104 → runs_of xs ≡ runs_below xs 32
@@ -285,9 +285,8 @@ unfolding runs_of run_count
 whole_runs xs e = rw e
 
 -- so the reports are those parts
-pub sound_parts : (patch : List ℕ) → length patch ≡ 128 → (pieces : List (List ℕ)) → validate_of (together pieces) ≡ 0
+pub sound_parts : (patch : List ℕ) → length patch ≡ 128 → (pieces : List (List ℕ)) → validate_of (together pieces) ≡ Ok tt
     → (given_all (begun patch) pieces).reports ≡ parts_below (together pieces) 32
-unfolding validate_of
 sound_parts patch w pieces z =
     (any_cut patch w pieces).reported
     ∙ whole_runs (together pieces) ((sound bank_form (together pieces) z).long ∙ size_is)
@@ -301,14 +300,21 @@ unfolding take_of possible
 ended_piece r piece patch e = rw e
 
 -- and every further end
-pub ended_again : (r : Receiver) → r.ended ≡ true → end_of r ≡ record { number = 9; receiver = r; channel = 0 }
+pub ended_again : (r : Receiver) → r.ended ≡ true → end_of r ≡ refused ForeignState r
 unfolding end_of possible
 ended_again r e = rw e
 
--- the end of a reader that has not ended ends it, whatever the number
-pub end_ends : (r : Receiver) → possible r ≡ true → (end_of r).receiver.ended ≡ true
+-- the end of a reader that has not ended ends it, whether the dump was sound or not
+pub end_ends : (r : Receiver) → possible r ≡ true → (after_end (end_of r)).ended ≡ true
 unfolding end_of
-end_ends r e = rw e
+end_ends r e = rw e (at (closing r))
+  where
+    at : (v : Result (Unit {0}) Refusal)
+        → (after_end (result_map_both (λ u. record { receiver = closed r; channel = r.frame })
+        (λ e. record { refusal = e; state = closed r }) v)).ended
+        ≡ true
+    at (Ok u) = refl
+    at (Err x) = refl
 
 -- so no pieces after the end change the line
 ended_call : (l : Line) (piece : List ℕ) → l.receiver.ended ≡ true → called l piece ≡ l

@@ -9,7 +9,7 @@ use borrow.Author.Tests.{ne_eqb, le-leb, le-ltb}
 use lib.Dec.{eqb, leb}
 use lib.ListN.{length, get_or, drop, drop_of_length-le}
 use lib.Seq.{drop-cons}
-use Rattle.dump.specs.Dump.{in_row, in_rows, framed, sum_place, channel_byte, yamaha_form}
+use Rattle.dump.specs.Dump.{in_row, in_rows, framed, channel_byte}
 use Rattle.bank.specs.Bank.{bank_form}
 use Rattle.bank_pieces.specs.Pieces.{is_right, frame_with}
 
@@ -100,7 +100,7 @@ module _ (dump : List ℕ) (long : length dump ≡ 4104) where
 
   -- and the frame is right by the same tests
   left_right : leb left 15 ≡ framed bank_form dump
-  unfolding framed in_rows bank_form yamaha_form sum_place in_row
+  unfolding in_rows bank_form
   left_right = all_right (row 0) (row 1) (get_or dump 2 0) (row 3) (row 4) (row 5) last
 
   -- it is at most 15 exactly if the frame is right
@@ -109,6 +109,5 @@ module _ (dump : List ℕ) (long : length dump ≡ 4104) where
 
   -- and then the channel
   pub frame_channel : framed bank_form dump ≡ true → frame_from 0 0 dump ≡ channel_byte dump
-  unfolding channel_byte
   frame_channel h =
       frame_is ∙ third_kept (row 0) (row 1) (get_or dump 2 0) (row 3) (row 4) (row 5) last (left_right ∙ h)

@@ -10,7 +10,7 @@ use lib.Dec.{eqb, leb, ltb}
 use lib.ListN.{length, get_or, take, drop, replicate, length-append, length-replicate, length-take, get_or-replicate}
 use lib.ListN.{get_or-append}
 use lib.Seq.{length-take-le, get_or-take, get_or_at, take-take, take-append-le}
-use Rattle.dump.specs.Dump.{in_row, total, largest_of, yamaha_form}
+use Rattle.dump.specs.Dump.{in_row, total, largest_of}
 use Rattle.bank.specs.Bank.{bank_form}
 use Rattle.bank_pieces.specs.declared.Receiver.{Receiver}
 use Rattle.bank_pieces.specs.Pieces.{fresh, possible, came_all, frame_with, is_right, summed_with, checked_with}
@@ -55,7 +55,7 @@ frame_keeps k f (b ∷ bs) l h =
 -- and the bytes here are right
 module _ (n : ℕ) (many : n ≡ 4096) (sum more : ℕ) where
   last_right : (j : ℕ) → is_right (6 + j) (get_or (rest n sum more) j 0) ≡ true
-  unfolding is_right rest in_row bank_form yamaha_form
+  unfolding is_right rest bank_form
   last_right j = at (eqb (6 + j) 4103) refl
     where
       last : 6 + j ≡ 4103 → get_or (sum ∷ (replicate n 0 ++ (0xF7 ∷ replicate more 0))) j 0 ≡ 0xF7
@@ -78,7 +78,7 @@ module _ (n : ℕ) (many : n ≡ 4096) (sum more : ℕ) where
   behind = 0x09 ∷ 0x20 ∷ 0x00 ∷ rest n sum more
 
   all_right : (i : ℕ) → is_right (3 + i) (get_or behind i 0) ≡ true
-  unfolding is_right in_row bank_form yamaha_form
+  unfolding is_right bank_form
   all_right zero = refl
   all_right (suc zero) = refl
   all_right (suc (suc zero)) = refl
@@ -89,7 +89,7 @@ module _ (n : ℕ) (many : n ≡ 4096) (sum more : ℕ) where
 
   -- so with three bytes or more the frame is the third
   third_kept : (f m : ℕ) → frame_from 0 0 (0xF0 ∷ 0x43 ∷ f ∷ take m behind) ≡ f
-  unfolding frame_from frame_with is_right in_row bank_form yamaha_form
+  unfolding frame_from frame_with is_right bank_form
   third_kept f m =
       frame_keeps 3 f (take m behind) (omega arith) (λ i l.
       ap (is_right (3 + i)) (get_or-take m behind i 0 (omega (arith, length-take m behind))) ∙ all_right i)
@@ -208,7 +208,7 @@ module _ (n : ℕ) (many : n ≡ 4096) (r : Receiver) (ok : possible r ≡ true)
 
   few_left : (k : ℕ) → r.count ≡ k → k < 3 → (r.frame ≡ 0) ⊎ ((r.frame ≡ 255) × (0 < r.count))
       → frame_from 0 0 (leading n r) ≡ r.frame
-  unfolding frame_from frame_with is_right in_row bank_form yamaha_form
+  unfolding frame_from frame_with is_right bank_form
   few_left zero c l (inl e) = few_frame 0 0 c e true refl refl
   few_left zero c l (inr e) = let h = e.1 in let w : ⊥ = omega arith in absurd w
   few_left (suc zero) c l (inl e) = few_frame 1 0 c e true refl refl

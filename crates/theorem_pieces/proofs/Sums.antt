@@ -67,7 +67,7 @@ module _ (bytes : List ℕ) (c : ℕ) where
 
   -- and where there is none, whether it completes the sum
   pub sum_right : largest_of bytes ≤ 127 → eqb (checked_with (summed_with 0 bytes) c) 0 ≡ summed bytes c
-  unfolding checked_with summed_with summed
+  unfolding checked_with summed_with
   sum_right h =
       let same : 0 + (0 + (0 + total bytes) % 128 + c) % 128 ≡ (total bytes + c) % 128 = omega arith in
       rw (le-leb (largest_of bytes) 127 h, le-leb (0 + (0 + total bytes) % 128) 127 (omega arith))

@@ -1,8 +1,13 @@
 -- A bank that comes in a list of pieces, rests given again, and the reports that must come of it. Definitions only, all
 -- to be believed.
 use Rattle.std.specs.Prelude.{◌≡◌, cond, List, [], ◌∷◌, ◌++◌, ℕ, zero, suc, ◌-◌, ◌/◌, min, length, take, drop, eqb}
-use Rattle.bank.specs.Bank.{slot_of, part_of, validate_of, channel_of}
+use Rattle.std.specs.Prelude.{Result, Ok, Err}
+use Rattle.std.specs.Result.{result_map_both, result_unwrap_or}
+use Rattle.refusals.specs.declared.Refusal.{Refusal}
+use Rattle.refusals.specs.declared.Refused.{Refused}
+use Rattle.bank.specs.Bank.{slot_of, part_of, channel_of}
 use Rattle.bank_pieces.specs.declared.Receiver.{Receiver}
+use Rattle.bank_pieces.specs.declared.Ended.{Ended}
 use Rattle.bank_pieces.specs.Pieces.{fresh, Took, take_of, end_of}
 
 -- a reported patch: its slot and its bytes
@@ -70,14 +75,22 @@ runs_below bytes (suc n) = runs_below bytes n ++ (record { slot = n; bytes = slo
 unfoldable pub runs_of : List ℕ → List Report
 runs_of bytes = runs_below bytes (run_count bytes)
 
--- WHAT A LINE MUST COME TO: the reports are the full runs of its bytes, and the end gives the number and the channel
--- that the reader of whole banks gives
+-- what the end tells: the channel, or why the dump is refused
+abbrev pub told_at_end : Result Ended (Refused Receiver) → Result ℕ Refusal
+told_at_end r = result_map_both (λ e. e.channel) (λ e. e.refusal) r
+
+-- and the reader behind it
+abbrev pub after_end : Result Ended (Refused Receiver) → Receiver
+after_end (Ok e) = e.receiver
+after_end (Err e) = e.state
+
+-- WHAT A LINE MUST COME TO: the reports are the full runs of its bytes, and the end tells the channel, or the refusal,
+-- that the reader of whole banks tells
 pub record Agrees (l : Line) (bytes : List ℕ) : Type 0 where
   pub reported : l.reports ≡ runs_of bytes
-  pub number : (end_of l.receiver).number ≡ validate_of bytes
-  pub channel : (end_of l.receiver).channel ≡ (channel_of bytes).channel
+  pub ending : told_at_end (end_of l.receiver) ≡ channel_of bytes
 
 -- a bank's own parts, slot by slot
 unfoldable pub parts_below : List ℕ → ℕ → List Report
 parts_below bytes zero = []
-parts_below bytes (suc n) = parts_below bytes n ++ (record { slot = n; bytes = part_of bytes n } ∷ [])
+parts_below bytes (suc n) = parts_below bytes n ++ (record { slot = n; bytes = result_unwrap_or (part_of bytes n) [] } ∷ [])

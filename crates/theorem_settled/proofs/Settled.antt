@@ -9,6 +9,9 @@ use prog.Routine.{Routine}
 use types.Logic.{Logic}
 use contract.Monad.{Fun, fact, fact_i, fact_use, conj, conj_l, conj_r}
 use denote.Ref.{Bor}
+use Rattle.std.specs.Prelude.{Result}
+use Rattle.std.specs.Result.{result_map_both}
+use Rattle.refusals.specs.declared.Refusal.{Refusal}
 use Rattle.bank.specs.Bank.{Handed}
 use Rattle.dx_units_power.specs.contracts.pow_2_fast as pow-2-fast
 use Rattle.dx_units_step.specs.contracts.frequency_step as frequency-step
@@ -30,9 +33,9 @@ use Rattle.patch_limits.specs.contracts.check as patch-limits-check
 use Rattle.patch_packer.specs.contracts.pack as patch-packer-pack
 use Rattle.dump.specs.contracts.checksum as dump-checksum
 use Rattle.bank.specs.contracts.validate as bank-validate
-use Rattle.bank.specs.contracts.number as bank-number
+use Rattle.bank.specs.contracts.check as bank-check
 use Rattle.bank.specs.contracts.channel as bank_channel
-use Rattle.bank.specs.contracts.Reader.number as bank-reader-number
+use Rattle.bank.specs.contracts.Reader.check as bank-reader-check
 use Rattle.bank.specs.contracts.Reader.channel as bank-reader-channel
 use Rattle.bank_pieces.specs.contracts.open as pieces-open
 use Rattle.bank_pieces.specs.contracts.end as Pieces-end
@@ -91,12 +94,19 @@ both 𝓤 φ ψ χ f =
     fact_use 𝓤 φ (conj_l 𝓤 (fact 𝓤 φ) (fact 𝓤 ψ)) (λ p.
     fact_use 𝓤 ψ (conj_r 𝓤 (fact 𝓤 φ) (fact 𝓤 ψ)) (λ q. fact_i 𝓤 χ (conj 𝓤 (fact 𝓤 φ) (fact 𝓤 ψ)) (f p q)))
 
+-- a part's bytes and place, or why there is none
+abbrev bytes_in : Result (Bor (List ℕ)) Refusal → Result (List ℕ) Refusal
+bytes_in r = result_map_both (λ p. p.now) (λ e. e) r
+
+abbrev place_in : Result (Bor (List ℕ)) Refusal → Result (ℕ × ℕ) Refusal
+place_in r = result_map_both (λ p. p.ref_ptr) (λ e. e) r
+
 -- a promise of a part
-same_part : {M : Type 1} (𝓤 : Ura M) (dump : Bor (List ℕ)) (slot : ℕ) (z y : Bor (List ℕ))
+same_part : {M : Type 1} (𝓤 : Ura M) (dump : Bor (List ℕ)) (slot : ℕ) (z y : Result (Bor (List ℕ)) Refusal)
     → ent 𝓤 (conj 𝓤 (fact 𝓤 (Handed dump slot z)) (fact 𝓤 (Handed dump slot y)))
-    (fact 𝓤 ((z.now ≡ y.now) × (z.ref_ptr ≡ y.ref_ptr)))
+    (fact 𝓤 ((bytes_in z ≡ bytes_in y) × (place_in z ≡ place_in y)))
 same_part 𝓤 dump slot z y =
-    both 𝓤 (Handed dump slot z) (Handed dump slot y) ((z.now ≡ y.now) × (z.ref_ptr ≡ y.ref_ptr))
+    both 𝓤 (Handed dump slot z) (Handed dump slot y) ((bytes_in z ≡ bytes_in y) × (place_in z ≡ place_in y))
     (λ p q. (p.bytes ∙ sym q.bytes, p.place ∙ sym q.place))
 
 -- a promise that is an equation, of a function that is lent nothing for writing
@@ -174,14 +184,14 @@ module _ {M : Type 1} {𝓤 : Ura M} (𝓛 : Logic 𝓤) (mem : Memory → SProp
   pub bank_validate_settled : Settled 𝓤 bank-validate.ended (bank-validate.clauses 𝓛 mem run)
   bank_validate_settled κs a g z y ws vs = equal 𝓤 _ z y refl
 
-  pub bank_number_settled : Settled 𝓤 bank-number.ended (bank-number.clauses 𝓛 mem run)
-  bank_number_settled κs a g z y ws vs = equal 𝓤 _ z y refl
+  pub bank_check_settled : Settled 𝓤 bank-check.ended (bank-check.clauses 𝓛 mem run)
+  bank_check_settled κs a g z y ws vs = equal 𝓤 _ z y refl
 
   pub bank_channel_settled : Settled 𝓤 bank_channel.ended (bank_channel.clauses 𝓛 mem run)
   bank_channel_settled κs a g z y ws vs = equal 𝓤 _ z y refl
 
-  pub bank_reader_number_settled : Settled 𝓤 bank-reader-number.ended (bank-reader-number.clauses 𝓛 mem run)
-  bank_reader_number_settled κs a g z y ws vs = equal 𝓤 _ z y refl
+  pub bank_reader_check_settled : Settled 𝓤 bank-reader-check.ended (bank-reader-check.clauses 𝓛 mem run)
+  bank_reader_check_settled κs a g z y ws vs = equal 𝓤 _ z y refl
 
   pub bank_reader_channel_settled : Settled 𝓤 bank-reader-channel.ended (bank-reader-channel.clauses 𝓛 mem run)
   bank_reader_channel_settled κs a g z y ws vs = equal 𝓤 _ z y refl
@@ -323,15 +333,15 @@ module _ {M : Type 1} {𝓤 : Ura M} (𝓛 : Logic 𝓤) (mem : Memory → SProp
 
   -- a part: its bytes, and its place
   pub bank_part_settled : Common 𝓤 bank-part.ended (bank-part.clauses 𝓛 mem run)
-      (λ κs a z y ws vs. (z.now ≡ y.now) × (z.ref_ptr ≡ y.ref_ptr))
+      (λ κs a z y ws vs. (bytes_in z ≡ bytes_in y) × (place_in z ≡ place_in y))
   bank_part_settled κs a g z y ws vs = same_part 𝓤 _ _ z y
 
   pub bank_read_settled : Common 𝓤 bank-read.ended (bank-read.clauses 𝓛 mem run)
-      (λ κs a z y ws vs. (z.now ≡ y.now) × (z.ref_ptr ≡ y.ref_ptr))
+      (λ κs a z y ws vs. (bytes_in z ≡ bytes_in y) × (place_in z ≡ place_in y))
   bank_read_settled κs a g z y ws vs = same_part 𝓤 _ _ z y
 
   pub bank_reader_part_settled : Common 𝓤 bank-reader-part.ended (bank-reader-part.clauses 𝓛 mem run)
-      (λ κs a z y ws vs. (z.now ≡ y.now) × (z.ref_ptr ≡ y.ref_ptr))
+      (λ κs a z y ws vs. (bytes_in z ≡ bytes_in y) × (place_in z ≡ place_in y))
   bank_reader_part_settled κs a g z y ws vs = same_part 𝓤 _ _ z y
 
   -- a text: its length, and the whole buffer

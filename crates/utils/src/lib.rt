@@ -32,11 +32,12 @@ fn line(table: &[f32], place: f32) -> f32
     let [before @ .., last] = table else {
         return f32::NAN;
     };
-    let Some(a) = before.get(integral) else {
+    if integral >= before.len() {
         return *last;
-    };
+    }
+    let a = table[integral];
     let b = table[integral + 1];
-    *a + (b - *a) * (place - whole_part(place, integral))
+    a + (b - a) * (place - whole_part(place, integral))
 }
 
 // A place's whole part as f32: from 2^24 on every f32 is whole, so it is the place itself.

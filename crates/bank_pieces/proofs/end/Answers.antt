@@ -1,6 +1,5 @@
 -- `bank_pieces::end` meets its contract. Assumes nothing.
 use mathlib.Core.Path.{sym, ◌∙◌}
-use borrow.Author.Tests.{eq-eqb, ne_eqb}
 use Rattle.bank_pieces.specs.Pieces.{end_of}
 use Rattle.bank_pieces.proofs.end.Goals as goal
 
@@ -9,22 +8,12 @@ unfolding end_of
 returns-then-not-is_possible c =
     simp (sym c.is_possible.ensures ∙ c.if-not-is_possible.true)
 
-pub returns-then-number-ne0 : goal.returns-then-number-ne0
+pub returns-in-Ok : goal.returns-in-Ok
 unfolding end_of
-returns-then-number-ne0 c =
-    simp (
-      sym c.is_possible.ensures ∙ c.if-not-is_possible.false,
-      sym c.closing_number-number.ensures,
-      ne_eqb _ _ c.if-number-ne0.true,
-      c.close-closed.ensures,
-    )
+returns-in-Ok c =
+    simp (sym c.is_possible.ensures ∙ c.if-not-is_possible.false, sym c.in-Ok.ensures)
 
-pub returns : goal.returns
+pub returns-in-Err : goal.returns-in-Err
 unfolding end_of
-returns c =
-    simp (
-      sym c.is_possible.ensures ∙ c.if-not-is_possible.false,
-      sym c.closing_number-number.ensures,
-      eq-eqb _ _ c.if-number-ne0.false,
-      c.close-closed.ensures,
-    )
+returns-in-Err c =
+    simp (sym c.is_possible.ensures ∙ c.if-not-is_possible.false, sym c.in-Err.ensures)

@@ -6,7 +6,7 @@ use Rattle.bank_pieces.proofs.is_right.Goals as goal
 pub returns-then-place-lt6 : goal.returns-then-place-lt6
 unfolding is_right
 returns-then-place-lt6 c =
-    simp (lt-ltb _ _ c.if-place-lt6.true, c.in_row.ensures, c.bank_form-form.ensures)
+    simp (lt-ltb _ _ c.if-place-lt6.true, c.contains.ensures, c.bank_form-form.ensures)
 
 pub returns-then-place-eq4103 : goal.returns-then-place-eq4103
 unfolding is_right
@@ -14,7 +14,7 @@ returns-then-place-eq4103 c =
     simp (
       le-ltb _ _ c.if-place-lt6.false,
       eq-eqb _ _ c.if-place-eq4103.true,
-      c.in_row-then-place-eq4103.ensures,
+      c.contains-then-place-eq4103.ensures,
       c.bank_form-form.ensures,
     )
 

@@ -6,12 +6,11 @@ use native.Mathlib.Omega.{arith}
 use lib.ListN.{length}
 use lib.Seq.{paste}
 use Rattle.dump.specs.Dump.{checksum_of}
-use Rattle.dump_writer.specs.Written.{header_of, written_of}
+use Rattle.dump_writer.specs.Written.{header_of}
 use Rattle.dump_writer.proofs.Whole.{header_length, three_put}
 use Rattle.dump_writer.proofs.write.Goals as goal
 
 pub returns : goal.returns
-unfolding written_of
 returns c =
     let out = c.args.out.now in
     let bytes = c.args.«data».now in

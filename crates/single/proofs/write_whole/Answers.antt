@@ -5,7 +5,6 @@ use Prim.Native.Nat.{ℕ}
 use native.Mathlib.Omega.{arith}
 use lib.ListN.{length}
 use Rattle.dump.specs.declared.Form.{Form}
-use Rattle.dump.specs.Dump.{yamaha_form}
 use Rattle.dump_writer.specs.Written.{written_of}
 use Rattle.single.specs.Single.{single_form, data_bytes, turned}
 use Rattle.single.proofs.Orders.{data_of_numbers}
@@ -13,7 +12,7 @@ use borrow.Author.Rules.{rules}
 use Rattle.single.proofs.write_whole.Goals as goal
 
 pub write-requires : goal.write-requires
-unfolding single_form yamaha_form
+unfolding single_form
 write-requires c =
     let count : c.single_form.result.count ≡ 155 =
     ap (λ (f : Form). f.count) c.single_form.ensures in

@@ -1,6 +1,10 @@
 -- `utils::line` meets its contract. Assumes nothing.
-use lib.Ieee.{nan, of_bits}
-use Rattle.utils.proofs.Lookup.{no_entry, at_last, from_before}
+use Prim.Native.Nat.{◌-◌}
+use native.Mathlib.Omega.{arith}
+use lib.ListN.{length}
+use lib.Ieee.{of_bits}
+use Rattle.std.proofs.lemmas.List.{length-take}
+use Rattle.utils.proofs.Lookup.{no_entry, at_last, between}
 use Rattle.utils.proofs.line.Goals as goal
 
 pub returns-in_default : goal.returns-in_default
@@ -8,11 +12,12 @@ unfolding of_bits
 returns-in_default c =
     no_entry c.args.table.now c.args.place _ c.f32_as_usize-integral.ensures c.in_default.len_below
 
-pub returns-in_default-get : goal.returns-in_default-get
-returns-in_default-get c =
-    at_last c.args.table.now c.args.place _ c.f32_as_usize-integral.ensures c.in_default-get.ensures.lookup.3
+pub returns-then-integral-before : goal.returns-then-integral-before
+returns-then-integral-before c =
+    at_last c.args.table.now c.args.place _ c.f32_as_usize-integral.ensures
+    (omega (arith, length-take (length c.args.table.now - 1) c.args.table.now, c.if-integral-before.true))
 
 pub returns : goal.returns
 returns c =
-    let l = c.in-Some.ensures.lookup.3 in
-    from_before c.args.table.now c.args.place _ c.f32_as_usize-integral.ensures _ _ l.0 (l.1 nan) c.whole_part.ensures
+    between c.args.table.now c.args.place _ c.f32_as_usize-integral.ensures _ c.whole_part.ensures
+    (omega (arith, length-take (length c.args.table.now - 1) c.args.table.now, c.if-integral-before.false))

@@ -1,7 +1,7 @@
--- `bank_pieces::closing_number` meets its contract. Each test leads to its number. Assumes nothing.
+-- `bank_pieces::closing` meets its contract. Each test leads to its refusal. Assumes nothing.
 use borrow.Author.Tests.{eq-eqb, ne_eqb, le-leb, lt-leb}
 use Rattle.bank_pieces.specs.Pieces.{closing}
-use Rattle.bank_pieces.proofs.closing_number.Goals as goal
+use Rattle.bank_pieces.proofs.closing.Goals as goal
 
 pub returns-then-is_short : goal.returns-then-is_short
 unfolding closing

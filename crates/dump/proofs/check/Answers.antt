@@ -1,4 +1,4 @@
--- `dump::number` meets its contract. Each test leads to its number. Assumes nothing.
+-- `dump::check` meets its contract. Each test leads to its refusal. Assumes nothing.
 use mathlib.Core.Path.{◌≡◌, sym, ◌∙◌}
 use mathlib.Core.List.{List}
 use Prim.Native.Nat.{ℕ, ◌+◌, ◌-◌, ◌≤◌, ◌%◌}
@@ -6,10 +6,12 @@ use native.Mathlib.Omega.{arith}
 use lib.ListN.{length, take, drop}
 use Rattle.dump.specs.declared.Form.{Form}
 use Rattle.dump.specs.Dump.{size_of, data_of, sum_byte, total, largest_of}
-use Rattle.dump.proofs.Numbers.{is_10, is_11, is_12, is_13, is_0}
+use Rattle.dump.proofs.Numbers.{is_short, is_unframed, is_high, is_unsummed, is_sound}
 use Rattle.dump.proofs.Places.{size_is, data_is, sum_byte_is}
 use Rattle.dump.proofs.Sums.{too_high, not_summed, is_summed}
-use Rattle.dump.proofs.number.Goals as goal
+use Rattle.dump.proofs.check.Goals as goal
+use Rattle.dump.proofs.check.Goals.{then-dump-lt8-via-then-dump-lt8, then-dump-lt8-via-else-dump-lt8+then-dump-form}
+use Rattle.dump.proofs.check.Goals.{then-c-gt127-via-then-c-gt127, then-c-gt127-via-else-c-gt127+then-t-c-ne0}
 
 module _ (form : Form) (six : length form.header ≡ 6) (dump : List ℕ) where
   -- a dump that is as long as its form says
@@ -26,16 +28,14 @@ module _ (form : Form) (six : length form.header ≡ 6) (dump : List ℕ) where
 
 pub returns-then-dump-lt8 : goal.returns-then-dump-lt8
 returns-then-dump-lt8 c =
-    is_10 c.args.form c.args.dump.now (λ e. omega (arith, size_is c.args.form (omega arith)))
-
-pub returns-then-dump-form : goal.returns-then-dump-form
-returns-then-dump-form c =
-    is_10 c.args.form c.args.dump.now
-    (λ e. c.if-dump-form.true (omega (arith, size_is c.args.form (omega arith))))
+    is_short c.args.form c.args.dump.now (λ e. let size = size_is c.args.form (omega arith) in elim c.then-dump-lt8.branch [
+      | then-dump-lt8-via-then-dump-lt8 w ↦ omega (arith, size, e)
+      | then-dump-lt8-via-else-dump-lt8+then-dump-form w ↦ w.if-dump-form.true (omega (arith, size, e))
+    ])
 
 pub returns-then-not-framed_right : goal.returns-then-not-framed_right
 returns-then-not-framed_right c =
-    is_11 c.args.form c.args.dump.now
+    is_unframed c.args.form c.args.dump.now
     (long c.args.form (omega arith) c.args.dump.now c.if-dump-form.false c.if-dump-lt8.false)
     (sym c.framed_right.ensures ∙ c.if-not-framed_right.true)
 
@@ -44,36 +44,32 @@ returns-then-has_high c =
     let six : length c.args.form.header ≡ 6 = omega arith in
     let dump = c.args.dump.now in
     let largest = largest_is c.args.form six dump c.tally-t.result.largest c.tally-t.ensures.1 in
-    is_12 c.args.form dump (long c.args.form six dump c.if-dump-form.false c.if-dump-lt8.false)
+    is_high c.args.form dump (long c.args.form six dump c.if-dump-form.false c.if-dump-lt8.false)
     (sym c.framed_right.ensures ∙ c.if-not-framed_right.false) (omega (arith, largest))
 
 pub returns-then-c-gt127 : goal.returns-then-c-gt127
 returns-then-c-gt127 c =
     let six : length c.args.form.header ≡ 6 = omega arith in
     let dump = c.args.dump.now in
+    let bytes = data_of c.args.form dump in
+    let last = sum_byte c.args.form dump in
+    let last-is = sum_byte_is c.args.form six dump in
     let largest = largest_is c.args.form six dump c.tally-t.result.largest c.tally-t.ensures.1 in
-    is_13 c.args.form dump (long c.args.form six dump c.if-dump-form.false c.if-dump-lt8.false)
+    is_unsummed c.args.form dump (long c.args.form six dump c.if-dump-form.false c.if-dump-lt8.false)
     (sym c.framed_right.ensures ∙ c.if-not-framed_right.false) (omega (arith, largest))
-    (too_high (data_of c.args.form dump) (sum_byte c.args.form dump)
-    (omega (arith, sum_byte_is c.args.form six dump)))
-
-pub returns-then-t-c-ne0 : goal.returns-then-t-c-ne0
-returns-then-t-c-ne0 c =
-    let six : length c.args.form.header ≡ 6 = omega arith in
-    let dump = c.args.dump.now in
-    let largest = largest_is c.args.form six dump c.tally-t.result.largest c.tally-t.ensures.1 in
-    is_13 c.args.form dump (long c.args.form six dump c.if-dump-form.false c.if-dump-lt8.false)
-    (sym c.framed_right.ensures ∙ c.if-not-framed_right.false) (omega (arith, largest))
-    (not_summed (data_of c.args.form dump) (sum_byte c.args.form dump) _
-    (sum_is c.args.form six dump c.tally-t.result.sum c.tally-t.ensures.0)
-    (λ e. c.if-t-c-ne0.true (omega (arith, sum_byte_is c.args.form six dump))))
+    (elim c.then-c-gt127.branch [
+      | then-c-gt127-via-then-c-gt127 w ↦ too_high bytes last (omega (arith, last-is))
+      | then-c-gt127-via-else-c-gt127+then-t-c-ne0 w ↦
+          not_summed bytes last _ (sum_is c.args.form six dump c.tally-t.result.sum c.tally-t.ensures.0)
+          (λ e. w.if-t-c-ne0.true (omega (arith, last-is, e)))
+    ])
 
 pub returns : goal.returns
 returns c =
     let six : length c.args.form.header ≡ 6 = omega arith in
     let dump = c.args.dump.now in
     let largest = largest_is c.args.form six dump c.tally-t.result.largest c.tally-t.ensures.1 in
-    is_0 c.args.form dump (long c.args.form six dump c.if-dump-form.false c.if-dump-lt8.false)
+    is_sound c.args.form dump (long c.args.form six dump c.if-dump-form.false c.if-dump-lt8.false)
     (sym c.framed_right.ensures ∙ c.if-not-framed_right.false) (omega (arith, largest))
     (is_summed (data_of c.args.form dump) (sum_byte c.args.form dump) _
     (sum_is c.args.form six dump c.tally-t.result.sum c.tally-t.ensures.0)
