@@ -3,19 +3,18 @@
 // wrong length.
 #![tactic(auto)]
 
+use refusals::Refusal;
 use streams::Streams;
 
 // The refusal in words. 3 and 4 name their operator, 2 names none.
 fn tell_if_refused(to: Streams, bytes: &[u8]) {
-    let p = algorithms::compile_row(bytes.len(), algorithms::six_bytes(bytes));
-    if p.number == 0 {
-        return;
+    match algorithms::compile_row(bytes.len(), algorithms::six_bytes(bytes)) {
+        Ok(_) => {}
+        Err(refusal @ (Refusal::NoRenderer(at) | Refusal::UnsetBuffer(at))) => {
+            streams::tell_refusal_at(to, b"", refusal.number(), b", at operator ", at as u64)
+        }
+        Err(refusal) => streams::tell_refusal(to, b"", b"", refusal.number()),
     }
-    if p.number == 2 {
-        streams::tell_refusal(to, b"", b"", 2);
-        return;
-    }
-    streams::tell_refusal_at(to, b"", p.number, b", at operator ", p.at as u64);
 }
 
 // The plan of a row, and in words why it is refused.
