@@ -1,5 +1,5 @@
--- What every plan of a row keeps to, by one walk along the row, and what an accepted one does; then, that each
--- operator is in exactly one call. Assumes nothing.
+-- What the plan of every accepted row keeps to, by one walk along the row; then, that each operator is in exactly one
+-- call. Assumes nothing.
 use mathlib.Core.Path.{◌≡◌, refl, sym, ap, subst, ◌∙◌}
 use mathlib.Core.Bool.{Bool, true, false, cond, not, ◌&&◌, ◌||◌, true≢false, false≢true, and-eq-true_iff}
 use mathlib.Core.Logic.{◌⊎◌, inl, inr, ⊎_elim}
@@ -16,14 +16,16 @@ use borrow.Author.Tests.{eqb-true, eqb-false}
 use Rattle.algorithms.specs.Opcode.{source, adding}
 use Rattle.algorithms.specs.Chain.{Modulation, origin_from, modulation, known, renders, call_length, rendered}
 use Rattle.algorithms.specs.Chain.Modulation.{unmodulated, external, feedback, originless}
-use Rattle.algorithms.specs.Plan.{call_of, no_call, no_plan, reading, ready, unready, extended, refusal, plan_from}
+use Rattle.std.specs.Prelude.{Ok, Err, IfOk}
+use Rattle.refusals.specs.declared.Refusal.TheVariants.{WrongTable}
+use Rattle.algorithms.specs.Plan.{call_of, no_call, no_plan, reading, ready, unready, extended, plan_from}
 use Rattle.algorithms.specs.Plan.{counted, planned}
 use Rattle.algorithms.specs.Accepted.{covered, Covering, In, Safe, Sound, Made}
 use Rattle.algorithms.specs.declared.Call.{Call}
 use Rattle.algorithms.specs.declared.Plan.{Plan}
-use Rattle.algorithms.specs.declared.Planned.{Planned}
-use Rattle.algorithms.proofs.Lengths.{cond_most, modulation_first, rendered_within}
-use Rattle.algorithms.proofs.Steps.{at_call, call_input, call_output, ready_before, counted_few}
+use Rattle.algorithms.proofs.Lengths.{modulation_first, rendered_within}
+use Rattle.algorithms.proofs.Steps.{at_call, call_input, call_output, ready_before}
+use Rattle.algorithms.proofs.Tables.{counted_few}
 
 -- ---- a renderer's chain
 
@@ -237,10 +239,6 @@ good_at operators i j t p e g = rw (sym e) g
 positive : (n : ℕ) → eqb n 0 ≡ false → 1 ≤ n
 positive n e = let z = eqb-false n 0 e in omega arith
 
--- where the calls end: at the row's end, `last`, or at once where the row is refused
-abbrev end : ℕ → Planned → ℕ
-end last q = cond (eqb q.number 0) last 0
-
 -- the row behind an operator
 behind : (t : List ℕ) (first o : ℕ) (os : List ℕ) → (o ∷ os) ≡ drop first t → os ≡ drop (suc first) t
 behind t first o os e =
@@ -250,7 +248,7 @@ behind t first o os e =
 walk_good : (operators last : ℕ) → operators ≤ 6 → last ≤ operators → (t os : List ℕ) (inside first : ℕ) (p : Plan)
     → os ≡ drop first t → first + length os ≡ last → inside ≤ length os
     → Good operators (first + inside) t p
-    → Good operators (end last (plan_from operators inside first p os)) t (plan_from operators inside first p os).plan
+    → IfOk (plan_from operators inside first p os) (Good operators last t)
 unfolding plan_from call_of
 walk_good operators last h m t [] inside first p d l i g = good_at operators (first + inside) last t p (omega arith) g
 walk_good operators last h m t (o ∷ os) (suc inside) first p d l i g =
@@ -260,8 +258,7 @@ walk_good operators last h m t (o ∷ os) zero first p d l i g =
     let n = rendered operators (o ∷ os) in
     let c = call_of first n (o ∷ os) in
     let made : Made operators t c = ap (λ (r : List ℕ). call_of first (rendered operators r) r) d in
-    at_call (λ q. Good operators (end last q) t q.plan) operators first p o os (good_start operators t)
-    (good_start operators t)
+    at_call (λ q. IfOk q (Good operators last t)) operators first p o os tt tt
     (λ x y. walk_good operators last h m t os (n - 1) (suc first) (extended p c) (behind t first o os d) (omega arith)
     (omega (arith, rendered_within operators o os))
     (good_at operators (first + n) (suc first + (n - 1)) t (extended p c) (omega (arith, positive n x))
@@ -269,64 +266,57 @@ walk_good operators last h m t (o ∷ os) zero first p d l i g =
     (call_sound operators first o os c refl (eqb-false n 0 x) (omega arith)) made y
     (good_at operators (first + 0) first t p (add-zero first) g))))
 
--- ---- the plan of a row, accepted or not, and however long the row is
+-- ---- the plan of an accepted row, however long the row is
 
-module _ (operators : ℕ) (row : List ℕ) where
+module _ (operators : ℕ) (row : List ℕ) (p : Plan) (e : planned operators row ≡ Ok p) where
   abbrev t : List ℕ
   t = take operators row
 
-  planned_good : Good operators (end (length t) (planned operators row)) t (planned operators row).plan
+  -- its operators are counted
+  pub accepted_six : operators ≤ 6
   unfolding planned
-  planned_good = pick (counted operators) refl
+  accepted_six = pick (counted operators) refl e
     where
       pick : (b : Bool) → counted operators ≡ b
-          → Good operators (end (length t) (cond b (plan_from operators 0 0 no_plan t) (refusal 2 0))) t
-          (cond b (plan_from operators 0 0 no_plan t) (refusal 2 0)).plan
-      pick true x =
-          walk_good operators _ (counted_few operators x) (omega (arith, length-take operators row))
-          t t 0 0 no_plan refl (omega arith) (omega arith) (good_start operators t)
-      pick false x = good_start operators t
+          → cond b (plan_from operators 0 0 no_plan (take operators row)) (Err WrongTable) ≡ Ok p → operators ≤ 6
+      pick true x z = counted_few operators x
+      pick false x z = absurd cc
+
+  planned_good : Good operators (length t) t p
+  unfolding planned
+  planned_good = pick (counted operators) refl e
+    where
+      good : IfOk (plan_from operators 0 0 no_plan t) (Good operators (length t) t)
+      good = walk_good operators _ accepted_six (omega (arith, length-take operators row)) t t 0 0 no_plan refl (omega arith) (omega arith) (good_start operators t)
+
+      pick : (b : Bool) → counted operators ≡ b → cond b (plan_from operators 0 0 no_plan t) (Err WrongTable) ≡ Ok p
+          → Good operators (length t) t p
+      pick true x z = rw z at good
+      pick false x z = absurd cc
 
   -- no call reads or adds to a scratch buffer that no earlier call has set
-  pub planned_safe : SafePlan (planned operators row).plan
+  pub planned_safe : SafePlan p
   planned_safe = planned_good.safe
 
   -- every call has a renderer, four buffers and operators of the row
-  pub planned_sound : (k : ℕ) → k < (planned operators row).plan.count
-      → Sound operators (get_or (planned operators row).plan.calls k no_call)
+  pub planned_sound : (k : ℕ) → k < p.count → Sound operators (get_or p.calls k no_call)
   planned_sound = planned_good.sound
 
   -- and takes the operators that are rendered together from its first one on
-  pub planned_made : (k : ℕ) → k < (planned operators row).plan.count
-      → Made operators t (get_or (planned operators row).plan.calls k no_call)
+  pub planned_made : (k : ℕ) → k < p.count → Made operators t (get_or p.calls k no_call)
   planned_made = planned_good.made
 
   -- and an operator or more
-  pub planned_some : (k : ℕ) → k < (planned operators row).plan.count
-      → 1 ≤ (get_or (planned operators row).plan.calls k no_call).n
+  pub planned_some : (k : ℕ) → k < p.count → 1 ≤ (get_or p.calls k no_call).n
   planned_some = planned_good.covering.some
 
-  pub planned_few : (planned operators row).plan.count ≤ operators
-  planned_few = omega (arith, planned_good.fewer, length-take operators row, cond_most (eqb (planned operators row).number 0) (length (take operators row)) 0 (length (take operators row)) (omega arith) (omega arith))
+  pub planned_few : p.count ≤ operators
+  planned_few = omega (arith, planned_good.fewer, length-take operators row)
 
--- ---- an accepted row
-
-pub accepted_six : (operators : ℕ) (row : List ℕ) → (planned operators row).number ≡ 0 → operators ≤ 6
-unfolding planned
-accepted_six operators row e = pick (counted operators) refl e
-  where
-    pick : (b : Bool) → counted operators ≡ b
-        → (cond b (plan_from operators 0 0 no_plan (take operators row)) (refusal 2 0)).number ≡ 0 → operators ≤ 6
-    pick true x e = counted_few operators x
-    pick false x e = absurd (omega arith)
-
--- the calls' spans cover the operators, in row order
-pub accepted_covering : (operators : ℕ) (row : List ℕ) → length row ≡ 6 → (planned operators row).number ≡ 0
-    → Covering (planned operators row).plan.calls (planned operators row).plan.count operators
-accepted_covering operators row l e =
-    subst (Covering (planned operators row).plan.calls (planned operators row).plan.count)
-    (rw e (length-take-le operators row (omega (arith, accepted_six operators row e))))
-    (planned_good operators row).covering
+  -- the calls' spans cover the operators, in row order
+  pub accepted_covering : length row ≡ 6 → Covering p.calls p.count operators
+  accepted_covering l =
+      subst (Covering p.calls p.count) (length-take-le operators row (omega (arith, accepted_six))) planned_good.covering
 
 -- ---- each operator is in exactly one call
 

@@ -1,20 +1,20 @@
 -- A chain's growth step by step, and what a call's length comes to.
 -- Assumes nothing.
-use mathlib.Core.Path.{◌≡◌, refl, sym, ap, ◌∙◌}
+use mathlib.Core.Path.{◌≡◌, refl, sym, ◌∙◌}
 use mathlib.Core.Bool.{Bool, true, false, cond, not, ◌&&◌, ◌||◌, and-false}
 use Prim.Native.Nat.{ℕ, zero, suc, ◌+◌, ◌-◌, ◌≤◌, ◌<◌}
-use native.Mathlib.Nat.{add-zero, not-suc-le-zero}
+use native.Mathlib.Nat.{not-suc-le-zero}
 use native.Mathlib.Omega.{arith}
 use mathlib.Core.List.{List, [], ◌∷◌}
 use lib.Dec.{eqb, leb, eqb-suc-zero}
-use lib.ListN.{length, get_or, take}
-use lib.Seq.{get_or-take}
-use borrow.Author.Tests.{eqb-true, ne_eqb, eq-eqb, lt-ltb, le-ltb, le-leb, lt-leb}
-use Rattle.algorithms.specs.Opcode.{destination, adding, source, flagged}
+use lib.ListN.{length, get_or, take, drop, length-drop}
+use lib.Seq.{get_or-take, drop-cons}
+use borrow.Author.Tests.{eqb-true, eqb-false, ne_eqb, eq-eqb, lt-leb}
+use Rattle.std.specs.Prelude.{Some, None}
+use Rattle.algorithms.specs.Opcode.{adding, source, flagged}
 use native.Mathlib.Numerals.{add-one}
-use Rattle.algorithms.proofs.Rows.{row_length, row_cons, row_last, row_get}
-use Rattle.algorithms.specs.Chain.{row_from, Within, last_operator, unmet, ends, grown, reused, chained, Modulation}
-use Rattle.algorithms.specs.Chain.{origin_from, modulation, known, renders, call_length, rendered}
+use Rattle.algorithms.specs.Chain.{last_operator, unmet, ends, grown, reused, chained, Modulation}
+use Rattle.algorithms.specs.Chain.{origin_from, modulation, known, renders, call_length, rendered, some}
 use Rattle.algorithms.specs.Chain.Modulation.{unmodulated, external, feedback, originless}
 
 -- a chain is one operator at the row's last
@@ -44,40 +44,34 @@ grown_more o p os e = rw ends_next (pick (unmet o (p ∷ []) || adding o) e)
     pick true e = absurd (mathlib.Core.Bool.false≢true e)
     pick false e = refl
 
--- the test of the code: destination and next source differ, or they meet and the add flag decides
-module _ (o p d s : ℕ) (ed : d ≡ destination o) (es : s ≡ source p) where
-  pub grows_unmet : (d ≡ s → ⊥) → false ≡ not (unmet o (p ∷ []) || adding o)
-  unfolding unmet
-  grows_unmet h = rw (ne_eqb (destination o) (source p) (λ e. h (ed ∙ e ∙ sym es)))
+-- ---- the growth from an operator on
 
-  pub grows_met : d ≡ s → (a : Bool) → a ≡ adding o → not a ≡ not (unmet o (p ∷ []) || adding o)
-  unfolding unmet
-  grows_met h a e = rw (eq-eqb (destination o) (source p) (sym ed ∙ h ∙ es), e)
+module _ (os : List ℕ) (i : ℕ) where
+  -- at the last operator, or behind it
+  pub last_at : length os ≤ i + 1 → grown (drop i os) ≡ length os - i
+  unfolding grown
+  last_at h = short (drop i os) (omega (arith, length-drop i os)) ∙ length-drop i os
+    where
+      short : (r : List ℕ) → length r ≤ 1 → grown r ≡ length r
+      short [] l = refl
+      short (o ∷ []) l = grown_last o
+      short (o ∷ p ∷ r) l = absurd (omega arith)
 
--- ---- the growth at an operator of a row
+  module _ (h : i + 1 < length os) where
+    two_at : drop i os ≡ get_or os i 0 ∷ get_or os (i + 1) 0 ∷ drop (suc (suc i)) os
+    two_at = drop-cons os i 0 (omega arith) ∙ rw (drop-cons os (suc i) 0 (omega arith), add-one i) refl
 
-module _ (operators i : ℕ) (row : List ℕ) (w : Within operators i row) where
-  pub last_at : operators ≤ i + 1 → grown (row_from operators i row) ≡ 1
-  last_at h = rw (row_cons operators i row w, row_last operators i row w (omega arith)) (grown_last (get_or row i 0))
+    pub end_at : not (unmet (get_or os i 0) (get_or os (i + 1) 0 ∷ []) || adding (get_or os i 0)) ≡ false
+        → grown (drop i os) ≡ 1
+    end_at e = rw two_at (grown_end (get_or os i 0) (get_or os (i + 1) 0) (drop (suc (suc i)) os) e)
 
-  module _ (h : i + 1 < operators) where
-    two_at : row_from operators i row ≡ get_or row i 0 ∷ get_or row (i + 1) 0 ∷ row_from operators (suc (suc i)) row
-    two_at =
-        let next : Within operators (suc i) row = record { whole = w.whole; most = w.most; one = omega arith } in
-        row_cons operators i row w ∙ rw (row_cons operators (suc i) row next, add-one i)
-
-    pub end_at : not (unmet (get_or row i 0) (get_or row (i + 1) 0 ∷ []) || adding (get_or row i 0)) ≡ false
-        → grown (row_from operators i row) ≡ 1
-    end_at e = rw two_at (grown_end (get_or row i 0) (get_or row (i + 1) 0) (row_from operators (suc (suc i)) row) e)
-
-    pub more_at : not (unmet (get_or row i 0) (get_or row (i + 1) 0 ∷ []) || adding (get_or row i 0)) ≡ true
-        → grown (row_from operators i row) ≡ suc (grown (row_from operators (i + 1) row))
+    pub more_at : not (unmet (get_or os i 0) (get_or os (i + 1) 0 ∷ []) || adding (get_or os i 0)) ≡ true
+        → grown (drop i os) ≡ suc (grown (drop (i + 1) os))
     more_at e =
-        let next : Within operators (i + 1) row = record { whole = w.whole; most = w.most; one = omega arith } in
-        let back : row_from operators (i + 1) row ≡ get_or row (i + 1) 0 ∷ row_from operators (suc (suc i)) row = row_cons operators (i + 1) row next ∙ rw add-one in
-        rw (two_at, back) (grown_more (get_or row i 0) (get_or row (i + 1) 0) (row_from operators (suc (suc i)) row) e)
+        let back : drop (i + 1) os ≡ get_or os (i + 1) 0 ∷ drop (suc (suc i)) os = rw (add-one i) (drop-cons os (suc i) 0 (omega arith)) in
+        rw (two_at, back) (grown_more (get_or os i 0) (get_or os (i + 1) 0) (drop (suc (suc i)) os) e)
 
--- ---- the reuse rule
+-- ---- a chain's length
 
 -- a choice lies where both do
 cond_least : (b : Bool) (x y n : ℕ) → n ≤ x → n ≤ y → n ≤ cond b x y
@@ -108,48 +102,9 @@ unfolding chained
 chained_within o os =
     cond_most (reused (o ∷ os)) 1 (grown (o ∷ os)) (suc (length os)) (omega arith) (grown_within (o ∷ os))
 
-module _ (operators first : ℕ) (row : List ℕ) (w : Within operators first row) (n : ℕ) where
-  pub grown_at : n ≡ grown (row_from operators first row) → (1 ≤ n) × (first + n ≤ operators)
-  grown_at e =
-      let e' = rw (row_cons operators first row w) at e in
-      let l = rw (row_cons operators first row w) at (row_length operators first row w) in
-      (omega (arith, grown_some (get_or row first 0) (row_from operators (suc first) row)), omega (arith, grown_within (get_or row first 0 ∷ row_from operators (suc first) row), w.one))
-
-  pub chained_at : n ≡ chained (row_from operators first row) → (1 ≤ n) × (first + n ≤ operators)
-  chained_at e =
-      let e' = rw (row_cons operators first row w) at e in
-      let l = rw (row_cons operators first row w) at (row_length operators first row w) in
-      (omega (arith, chained_some (get_or row first 0) (row_from operators (suc first) row)), omega (arith, chained_within (get_or row first 0) (row_from operators (suc first) row), w.one))
-
-  module _ (e : n ≡ grown (row_from operators first row)) where
-    abbrev os : List ℕ
-    os = row_from operators first row
-
-    -- the chain reaches the row's end
-    pub reused_never : operators ≤ first + n → false ≡ reused os
-    unfolding reused
-    reused_never h =
-        let l : length os ≤ grown os = omega (arith, row_length operators first row w) in
-        rw (le-ltb (grown os) (length os) l)
-
-    -- or it stops short of it, and the next source decides
-    pub reused_at : first + n < operators → (s d : ℕ) → s ≡ source (get_or row (first + n) 0)
-        → d ≡ destination (get_or row first 0) → eqb s d ≡ reused os
-    unfolding reused
-    reused_at h s d es ed =
-        let l : grown os < length os = omega (arith, row_length operators first row w, w.one) in
-        let here = row_get operators first row w 0 (omega (arith, w.one)) in
-        rw (lt-ltb (grown os) (length os) l, ← e, row_get operators first row w n h, here, add-zero, ← es, ← ed)
-
--- the reuse rule decides
-module _ (os : List ℕ) (b : Bool) (e : b ≡ reused os) where
-  pub cut_chain : b ≡ true → 1 ≡ chained os
-  unfolding chained
-  cut_chain h = rw (← e, h)
-
-  pub kept_chain : (n : ℕ) → n ≡ grown os → b ≡ false → n ≡ chained os
-  unfolding chained
-  kept_chain n en h = rw (← e, h) en
+pub chained_range : (os : List ℕ) → 0 < length os → (1 ≤ chained os) × (chained os ≤ length os)
+chained_range [] h = absurd (omega arith)
+chained_range (o ∷ os) h = (chained_some o os, chained_within o os)
 
 -- ---- a call's length
 
@@ -269,44 +224,27 @@ fed_length (suc (suc (suc zero))) o (p ∷ q ∷ os) e h k =
 fed_length (suc (suc (suc (suc n)))) o os e h k =
     rw (known_many (suc (suc (suc (suc n)))) (modulation (take (suc (suc (suc (suc n)))) (o ∷ os))) _ (omega arith), lt-leb (suc (suc (suc (suc n)))) 3 (omega arith))
 
--- ---- a call's length at an operator of a row
+-- a call of feedback, of six operators, is a chain where it is one of at most 3, and its last operator adds and is the
+-- origin
+module _ (os : List ℕ) (h : 0 < length os) where
+  pub dry_at : (operators : ℕ) → (source (get_or os 0 0) ≡ 3 → ⊥) → 1 ≡ call_length operators os
+  dry_at operators z = go os h z
+    where
+      go : (r : List ℕ) → 0 < length r → (source (get_or r 0 0) ≡ 3 → ⊥) → 1 ≡ call_length operators r
+      go [] h z = absurd (omega arith)
+      go (o ∷ r) h z = dry_one operators o r z
 
-module _ (operators first : ℕ) (row : List ℕ) (w : Within operators first row) where
-  pub dry_at : (s : ℕ) → s ≡ source (get_or row first 0) → (s ≡ 3 → ⊥)
-      → 1 ≡ call_length operators (row_from operators first row)
-  dry_at s e h =
-      rw (row_cons operators first row w)
-      (dry_one operators (get_or row first 0) (row_from operators (suc first) row) (λ z. h (e ∙ z)))
-
-  -- a chain of six operators with feedback, whose length is n; a and f say whether its last operator adds and is
-  -- flagged
-  module _ (s n : ℕ) (six : operators ≡ 6) (es : s ≡ source (get_or row first 0)) (h : s ≡ 3) (en : n ≡ chained (row_from operators first row)) where
-    fed_at : call_length operators (row_from operators first row) ≡ cond (leb n 3 && (adding (get_or row (first + n - 1) 0) && flagged (get_or row (first + n - 1) 0))) n 1
-    unfolding call_length
-    fed_at =
-        let b = chained_at operators first row w n en in
-        let o = get_or row first 0 in
-        let os = row_from operators (suc first) row in
-        let c = row_cons operators first row w in
-        let l = rw c at (row_length operators first row w) in
-        let g : get_or (o ∷ os) (n - 1) 0 ≡ get_or row (first + n - 1) 0 = ap (λ (l : List ℕ). get_or l (n - 1) 0) (sym c) ∙ row_get operators first row w (n - 1) (omega arith) ∙ ap (λ (k : ℕ). get_or row k 0) (omega arith) in
-        let f = fed_length n o os (sym es ∙ h) b.0 (omega arith) in
-        let f' = rw g at f in
-        ap (λ (k : ℕ). call_length k (row_from operators first row)) six ∙ rw (← en, c) f'
-
-    pub long_at : 3 < n → 1 ≡ call_length operators (row_from operators first row)
-    long_at z = rw (fed_at, lt-leb n 3 z)
-
-    module _ (z : n ≤ 3) (a : Bool) (ea : a ≡ adding (get_or row (first + n - 1) 0)) where
-      pub unadded_at : a ≡ false → 1 ≡ call_length operators (row_from operators first row)
-      unadded_at y = rw (fed_at, le-leb n 3 z, ← ea, y)
-
-      module _ (y : a ≡ true) (f : Bool) (ef : f ≡ flagged (get_or row (first + n - 1) 0)) where
-        pub unflagged_at : f ≡ false → 1 ≡ call_length operators (row_from operators first row)
-        unflagged_at x = rw (fed_at, le-leb n 3 z, ← ea, y, ← ef, x)
-
-        pub chain_at_lem : f ≡ true → n ≡ call_length operators (row_from operators first row)
-        chain_at_lem x = rw (fed_at, le-leb n 3 z, ← ea, y, ← ef, x)
+  pub fed_at : (operators : ℕ) → operators ≡ 6 → source (get_or os 0 0) ≡ 3
+      → call_length operators os
+      ≡ cond (leb (chained os) 3 && (adding (get_or os (chained os - 1) 0) && flagged (get_or os (chained os - 1) 0))) (chained os) 1
+  unfolding call_length
+  fed_at operators e z = rw e (go os h z)
+    where
+      go : (r : List ℕ) → 0 < length r → source (get_or r 0 0) ≡ 3
+          → cond (renders 6 r (chained r)) (chained r) 1
+          ≡ cond (leb (chained r) 3 && (adding (get_or r (chained r - 1) 0) && flagged (get_or r (chained r - 1) 0))) (chained r) 1
+      go [] h z = absurd (omega arith)
+      go (o ∷ r) h z = fed_length (chained (o ∷ r)) o r z (chained_some o r) (chained_within o r)
 
 -- ---- a call's renderer
 
@@ -328,32 +266,58 @@ rendered_within operators o os =
     cond_most (renders operators (o ∷ os) (call_length operators (o ∷ os))) (call_length operators (o ∷ os)) 0
     (suc (length os)) k (omega arith)
 
-pub rendered_at : (operators first : ℕ) (row : List ℕ) (w : Within operators first row) (n : ℕ)
-    → n ≡ rendered operators (row_from operators first row) → first + n ≤ operators
-rendered_at operators first row w n e =
-    let e' = rw (row_cons operators first row w) at e in
-    let l = rw (row_cons operators first row w) at (row_length operators first row w) in
-    omega (arith, rendered_within operators (get_or row first 0) (row_from operators (suc first) row), w.one)
+pub rendered_most : (operators : ℕ) (os : List ℕ) → 0 < length os → rendered operators os ≤ length os
+rendered_most operators [] h = absurd (omega arith)
+rendered_most operators (o ∷ os) h = rendered_within operators o os
 
-module _ (operators first : ℕ) (row : List ℕ) (w : Within operators first row) (n : ℕ) (en : n ≡ call_length operators (row_from operators first row)) where
-  pub several_at : (n ≡ 1 → ⊥) → n ≡ rendered operators (row_from operators first row)
-  several_at h = en ∙ several_rendered operators (row_from operators first row) (λ z. h (en ∙ z))
+call_some : (operators o : ℕ) (os : List ℕ) → 1 ≤ call_length operators (o ∷ os)
+unfolding call_length
+call_some operators o os =
+    cond_least (renders operators (o ∷ os) (chained (o ∷ os))) (chained (o ∷ os)) 1 1 (chained_some o os) (omega arith)
 
-  module _ (h : n ≡ 1) (s : ℕ) (es : s ≡ source (get_or row first 0)) where
-    one_at : rendered operators (row_from operators first row) ≡ cond (cond (eqb s 3) (flagged (get_or row first 0)) true) 1 0
-    unfolding rendered
-    one_at =
-        let o = get_or row first 0 in
-        let os = row_from operators (suc first) row in
-        let c = row_cons operators first row w in
-        rw (sym en ∙ h, c, known_one operators o os, es)
+-- one operator has no renderer where it wants feedback and is no origin itself; any other call has one
+rendered_as : (operators o : ℕ) (os : List ℕ) (n : ℕ) → n ≡ call_length operators (o ∷ os)
+    → rendered operators (o ∷ os) ≡ cond (eqb n 1 && (eqb (source o) 3 && not (flagged o))) 0 n
+unfolding rendered
+rendered_as operators o os n e = pick (eqb n 1) refl
+  where
+    one : (b d : Bool) → ◌≡◌ {A = ℕ} (cond (cond b d true) 1 0) (cond (b && not d) 0 1)
+    one true true = refl
+    one true false = refl
+    one false d = refl
 
-    pub dry_rendered : (s ≡ 3 → ⊥) → 1 ≡ rendered operators (row_from operators first row)
-    dry_rendered z = rw (one_at, ne_eqb s 3 z)
+    pick : (b : Bool) → eqb n 1 ≡ b
+        → cond (renders operators (o ∷ os) (call_length operators (o ∷ os))) (call_length operators (o ∷ os)) 0
+        ≡ cond (b && (eqb (source o) 3 && not (flagged o))) 0 n
+    pick true x =
+        let z : n ≡ 1 = eqb-true n 1 x in
+        rw (sym e ∙ z, z, known_one operators o os) (one (eqb (source o) 3) (flagged o))
+    pick false x = let z = eqb-false n 1 x in sym (e ∙ several_rendered operators (o ∷ os) (λ y. z (e ∙ y)))
 
-    module _ (z : s ≡ 3) (f : Bool) (ef : f ≡ flagged (get_or row first 0)) where
-      pub own_rendered : f ≡ true → 1 ≡ rendered operators (row_from operators first row)
-      own_rendered y = rw (one_at, eq-eqb s 3 z, ← ef, y)
+pub some_rendered : (operators : ℕ) (os : List ℕ) → 0 < length os → (n : ℕ) → n ≡ call_length operators os
+    → some (rendered operators os)
+    ≡ cond (eqb n 1 && (eqb (source (get_or os 0 0)) 3 && not (flagged (get_or os 0 0)))) None (Some n)
+unfolding some
+some_rendered operators [] h n e = absurd (omega arith)
+some_rendered operators (o ∷ os) h n e = rw (rendered_as operators o os n e) (pick (eqb n 1 && (eqb (source o) 3 && not (flagged o))))
+  where
+    pick : (b : Bool) → cond (eqb (cond b 0 n) 0) None (Some (cond b 0 n)) ≡ cond b None (Some n)
+    pick true = refl
+    pick false = rw (ne_eqb n 0 (omega (arith, call_some operators o os))) refl
 
-      pub none_rendered : f ≡ false → 0 ≡ rendered operators (row_from operators first row)
-      none_rendered y = rw (one_at, eq-eqb s 3 z, ← ef, y)
+-- a length that there is, and one that there is not
+pub some_is : (r n : ℕ) → Some n ≡ some r → (n ≡ r) × (1 ≤ n)
+unfolding some
+some_is r n e = pick (eqb r 0) refl e
+  where
+    pick : (b : Bool) → eqb r 0 ≡ b → Some n ≡ cond b None (Some r) → (n ≡ r) × (1 ≤ n)
+    pick true x e = absurd cc
+    pick false x e = let z : n ≡ r = cc in let y = eqb-false r 0 x in (z, omega arith)
+
+pub none_is : (r : ℕ) → None ≡ some r → r ≡ 0
+unfolding some
+none_is r e = pick (eqb r 0) refl e
+  where
+    pick : (b : Bool) → eqb r 0 ≡ b → None ≡ cond b None (Some r) → r ≡ 0
+    pick true x e = eqb-true r 0 x
+    pick false x e = absurd cc

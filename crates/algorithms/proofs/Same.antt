@@ -1,15 +1,19 @@
 -- The test of two plans says whether they are equal.
 -- Assumes nothing.
-use mathlib.Core.Path.{◌≡◌, refl}
+use mathlib.Core.Path.{◌≡◌, refl, ap}
 use mathlib.Core.Bool.{Bool, true, false, ◌&&◌, beq, false≢true, and-eq-true_iff}
-use Prim.Native.Nat.{ℕ, ◌+◌, ◌≤◌, ◌<◌}
-use native.Mathlib.Numerals.{add-one}
+use Prim.Native.Nat.{ℕ}
 use mathlib.Core.List.{List, [], ◌∷◌}
 use lib.Dec.{eqb}
-use lib.ListN.{length, get_or, drop, drop_of_length-le}
-use lib.Seq.{drop-cons}
 use borrow.Author.Tests.{eqb-true, eq-eqb}
-use Rattle.algorithms.specs.Plan.{no_call, same_call, same_calls, same_plan}
+use lib.Pointwise.{pointwise}
+use Rattle.std.specs.Prelude.{Result, Ok, Err}
+use Rattle.std.specs.Result.{result_eq}
+use Rattle.refusals.specs.declared.Refusal.{Refusal}
+use Rattle.refusals.specs.contracts.RefusalPartialEq as RefusalEq
+use Rattle.algorithms.specs.contracts.CallPartialEq as CallEq
+use Rattle.algorithms.specs.contracts.PlanPartialEq as PlanEq
+use Rattle.algorithms.specs.Plan.{same_call, same_calls, same_plan, is_plan}
 use Rattle.algorithms.specs.declared.Call.{Call}
 use Rattle.algorithms.specs.declared.Plan.{Plan}
 
@@ -47,12 +51,6 @@ same_call_equal c d e =
     let x₄ = eqb-true c.output d.output e₄.0 in
     call_equal _ _ _ _ _ _ _ _ _ _ x₁ x₂ x₃ x₄ (beq_equal c.add d.add e₄.1)
 
--- two calls alike up to their inputs are the same where their outputs and their ways are
-pub same_from_output : (c d : Call) → c.first ≡ d.first → c.n ≡ d.n → c.input ≡ d.input
-    → same_call c d ≡ eqb c.output d.output && beq c.add d.add
-unfolding same_call
-same_from_output c d x y z = simp (eq-eqb _ _ x, eq-eqb _ _ y, eq-eqb _ _ z)
-
 same_calls_equal : (cs ds : List Call) → same_calls cs ds ≡ true → cs ≡ ds
 unfolding same_calls
 same_calls_equal [] [] e = refl
@@ -87,18 +85,22 @@ pub same_plan_self : (p : Plan) → same_plan p p ≡ true
 unfolding same_plan
 same_plan_self p = rw (eq-eqb p.count p.count refl) (same_calls_self p.calls)
 
--- ---- the loop over the calls
+-- ---- the derived tests are the definition's
 
-module _ (cs ds : List Call) (k : ℕ) (h : k < length cs) (i : k < length ds) where
-  pub same_more : same_call (get_or cs k no_call) (get_or ds k no_call) ≡ true
-      → same_calls (drop k cs) (drop k ds) ≡ same_calls (drop (k + 1) cs) (drop (k + 1) ds)
-  unfolding same_calls
-  same_more e = rw (drop-cons cs k no_call h, drop-cons ds k no_call i, e, add-one)
+-- of two calls it is so by computing
+calls_same : (cs ds : List Call) → pointwise (CallEq.TheImpl.eq-value).it cs ds ≡ same_calls cs ds
+unfolding same_call same_calls
+calls_same [] [] = refl
+calls_same [] (d ∷ ds) = refl
+calls_same (c ∷ cs) [] = refl
+calls_same (c ∷ cs) (d ∷ ds) = ap (λ (b : Bool). same_call c d && b) (calls_same cs ds)
 
-  pub same_less : same_call (get_or cs k no_call) (get_or ds k no_call) ≡ false → same_calls (drop k cs) (drop k ds) ≡ false
-  unfolding same_calls
-  same_less e = rw (drop-cons cs k no_call h, drop-cons ds k no_call i, e)
+pub derived_same : (p q : Plan) → (PlanEq.TheImpl.eq-value).it p q ≡ same_plan p q
+unfolding same_plan
+derived_same p q = ap (λ (b : Bool). eqb p.count q.count && b) (calls_same p.calls q.calls)
 
-pub same_done : (cs ds : List Call) (k : ℕ) → length cs ≤ k → length ds ≤ k → same_calls (drop k cs) (drop k ds) ≡ true
-unfolding same_calls
-same_done cs ds k h i = rw (drop_of_length-le cs {i = k} h, drop_of_length-le ds {i = k} i)
+pub derived_plan : (r : Result Plan Refusal) (q : Plan)
+    → result_eq (PlanEq.TheImpl.eq-value).it (RefusalEq.TheImpl.eq-value).it r (Ok q) ≡ is_plan r q
+unfolding is_plan
+derived_plan (Ok p) q = derived_same p q
+derived_plan (Err e) q = refl

@@ -1,23 +1,24 @@
 -- The walk along a row, call by call, and the flags that say which buffers are ready.
 -- Assumes nothing.
 use mathlib.Core.Path.{◌≡◌, refl, sym, ap, ◌∙◌}
-use mathlib.Core.Bool.{Bool, true, false, cond, not, ◌&&◌, ◌||◌, true≢false, false≢true}
+use mathlib.Core.Bool.{Bool, true, false, cond, not, ◌&&◌, ◌||◌, true≢false}
 use Prim.Native.Nat.{ℕ, zero, suc, ◌+◌, ◌-◌, ◌≤◌, ◌<◌}
 use native.Mathlib.Nat.{add-zero, le_refl}
 use native.Mathlib.Numerals.{add-one}
 use native.Mathlib.Omega.{arith}
 use mathlib.Core.List.{List, [], ◌∷◌}
 use lib.Dec.{eqb}
-use lib.ListN.{length, get_or, set, take, drop, drop_of_length-le}
-use lib.Seq.{length-take-le, drop-drop, get_or-set_same, get_or-set_other}
+use lib.ListN.{length, get_or, set, drop, drop_of_length-le}
+use Rattle.std.specs.Prelude.{Result, Ok, Err}
+use lib.Seq.{get_or-set_same, get_or-set_other}
 use borrow.Author.Tests.{ne_eqb, eqb-true, eqb-false}
 use Rattle.algorithms.specs.Opcode.{destination, source}
-use Rattle.algorithms.specs.Chain.{row_from, Within, rendered}
-use Rattle.algorithms.specs.Plan.{call_of, no_call, reading, ready, unready, extended, refusal, plan_from, counted}
+use Rattle.algorithms.specs.Chain.{rendered}
+use Rattle.algorithms.specs.Plan.{call_of, no_call, reading, ready, unready, extended, plan_from}
 use Rattle.algorithms.specs.declared.Call.{Call}
 use Rattle.algorithms.specs.declared.Plan.{Plan}
-use Rattle.algorithms.specs.declared.Planned.{Planned}
-use Rattle.algorithms.proofs.Rows.{row_cons}
+use Rattle.refusals.specs.declared.Refusal.{Refusal}
+use Rattle.refusals.specs.declared.Refusal.TheVariants.{NoRenderer, UnsetBuffer}
 
 -- the operators inside a call are passed over
 pub inside : (operators k first : ℕ) (p : Plan) (os : List ℕ)
@@ -29,80 +30,73 @@ inside operators (suc k) first p (o ∷ os) =
     inside operators k (suc first) p os ∙ ap (λ (j : ℕ). plan_from operators 0 j p (drop k os)) (omega arith)
 
 -- what holds of both refusals, and of the walk behind an accepted call, holds of the walk where a call begins
-module _ (A : Planned → Type 0) (operators first : ℕ) (p : Plan) (o : ℕ) (os : List ℕ) where
+module _ (A : Result Plan Refusal → Type 0) (operators first : ℕ) (p : Plan) (o : ℕ) (os : List ℕ) where
   abbrev n : ℕ
   n = rendered operators (o ∷ os)
 
   abbrev c : Call
   c = call_of first n (o ∷ os)
 
-  abbrev next : Planned
+  abbrev next : Result Plan Refusal
   next = plan_from operators (n - 1) (suc first) (extended p c) os
 
-  pub at_call : A (refusal 3 first) → A (refusal 4 first)
+  pub at_call : A (Err (NoRenderer first)) → A (Err (UnsetBuffer first))
       → (eqb n 0 ≡ false → unready (ready p.calls p.count) c ≡ false → A next)
       → A (plan_from operators 0 first p (o ∷ os))
   unfolding plan_from
   at_call lacks-one is-unready goes_on = pick (eqb n 0) (unready (ready p.calls p.count) c) refl refl
     where
       pick : (b d : Bool) → eqb n 0 ≡ b → unready (ready p.calls p.count) c ≡ d
-          → A (cond b (refusal 3 first) (cond d (refusal 4 first) next))
+          → A (cond b (Err (NoRenderer first)) (cond d (Err (UnsetBuffer first)) next))
       pick true d x y = lacks-one
       pick false true x y = is-unready
       pick false false x y = goes_on x y
 
-module _ (operators first : ℕ) (row : List ℕ) (w : Within operators first row) (p : Plan) (n : ℕ) (en : n ≡ rendered operators (row_from operators first row)) where
+module _ (operators first : ℕ) (os : List ℕ) (some : 0 < length os) (p : Plan) where
   -- a call without a renderer
-  pub lacking_at : n ≡ 0 → refusal 3 first ≡ plan_from operators 0 first p (row_from operators first row)
+  pub lacking_at : rendered operators os ≡ 0 → Err (NoRenderer first) ≡ plan_from operators 0 first p os
   unfolding plan_from
-  lacking_at h =
-      let e = rw (row_cons operators first row w) at en in
-      rw (row_cons operators first row w, sym e ∙ h)
+  lacking_at e = go os some e
+    where
+      go : (r : List ℕ) → 0 < length r → rendered operators r ≡ 0 → Err (NoRenderer first) ≡ plan_from operators 0 first p r
+      go [] h e = absurd (omega arith)
+      go (o ∷ r) h e = rw e refl
 
-  module _ (c : Call) (ec : c ≡ call_of first n (row_from operators first row)) (h : n ≡ 0 → ⊥) (u : Bool) (eu : u ≡ unready (ready p.calls p.count) c) where
+  module _ (n : ℕ) (en : n ≡ rendered operators os) (h : 1 ≤ n) (c : Call) (ec : c ≡ call_of first n os) where
     -- a call that is not ready
-    pub unready_at : u ≡ true → refusal 4 first ≡ plan_from operators 0 first p (row_from operators first row)
+    pub unready_at : unready (ready p.calls p.count) c ≡ true
+        → Err (UnsetBuffer first) ≡ plan_from operators 0 first p os
     unfolding plan_from
-    unready_at z =
-        let e = rw (row_cons operators first row w) at en in
-        let d = rw (row_cons operators first row w) at ec in
-        rw (row_cons operators first row w, ← e, ne_eqb n 0 h, ← d, ← eu, z)
+    unready_at z = go os some en ec
+      where
+        go : (r : List ℕ) → 0 < length r → n ≡ rendered operators r → c ≡ call_of first n r
+            → Err (UnsetBuffer first) ≡ plan_from operators 0 first p r
+        go [] k e d = absurd (omega arith)
+        go (o ∷ r) k e d = rw (← e, ne_eqb n 0 (omega arith), ← d, z) refl
 
     -- an accepted one
-    pub step_at : u ≡ false → plan_from operators 0 (first + n) (extended p c) (row_from operators (first + n) row) ≡ plan_from operators 0 first p (row_from operators first row)
+    pub step_at : unready (ready p.calls p.count) c ≡ false
+        → plan_from operators 0 (first + n) (extended p c) (drop n os) ≡ plan_from operators 0 first p os
     unfolding plan_from
-    step_at z =
-        let e = rw (row_cons operators first row w) at en in
-        let d = rw (row_cons operators first row w) at ec in
-        let m : suc first + (n - 1) ≡ first + n = omega arith in
-        let r : drop (n - 1) (row_from operators (suc first) row) ≡ row_from operators (first + n) row = drop-drop (n - 1) (suc first) (take operators row) ∙ rw m in
-        let i : plan_from operators (n - 1) (suc first) (extended p c) (row_from operators (suc first) row) ≡ plan_from operators 0 (first + n) (extended p c) (row_from operators (first + n) row)
-        = inside operators (n - 1) (suc first) (extended p c) (row_from operators (suc first) row) ∙ rw (m, r) in
-        rw (row_cons operators first row w, ← e, ne_eqb n 0 h, ← d, ← eu, z) (sym i)
+    step_at z = go os some en ec
+      where
+        go : (r : List ℕ) → 0 < length r → n ≡ rendered operators r → c ≡ call_of first n r
+            → plan_from operators 0 (first + n) (extended p c) (drop n r) ≡ plan_from operators 0 first p r
+        go [] k e d = absurd (omega arith)
+        go (o ∷ r) k e d =
+            let m : suc first + (n - 1) ≡ first + n = omega arith in
+            let g : drop n (o ∷ r) ≡ drop (n - 1) r = behind n h in
+            rw (← e, ne_eqb n 0 (omega arith), ← d, z) (sym (inside operators (n - 1) (suc first) (extended p c) r ∙ rw m (sym (ap (λ (s : List ℕ). plan_from operators 0 (first + n) (extended p c) s) g))))
+          where
+            behind : (i : ℕ) → 1 ≤ i → drop i (o ∷ r) ≡ drop (i - 1) r
+            behind zero l = absurd (omega arith)
+            behind (suc i) l = let y : suc i - 1 ≡ i = omega arith in rw y refl
 
 -- the row's end
-pub done_at : (operators first : ℕ) (row : List ℕ) (p : Plan) → length row ≡ 6 → operators ≤ 6 → operators ≤ first
-    → record { number = 0; at = 0; plan = p } ≡ plan_from operators 0 first p (row_from operators first row)
+pub done_at : (operators first : ℕ) (row : List ℕ) (p : Plan) → length row ≤ first
+    → Ok p ≡ plan_from operators 0 first p (drop first row)
 unfolding plan_from
-done_at operators first row p l m h =
-    rw (drop_of_length-le (take operators row) {i = first} (rw (length-take-le operators row (omega arith)) h))
-
--- operators that are counted are some, and at most six
-counted_range : (operators : ℕ) → counted operators ≡ true → (0 < operators) × (operators ≤ 6)
-unfolding counted
-counted_range operators e = pick (eqb operators 4) (eqb operators 6) refl refl e
-  where
-    pick : (b d : Bool) → eqb operators 4 ≡ b → eqb operators 6 ≡ d → (b || d) ≡ true
-        → (0 < operators) × (operators ≤ 6)
-    pick true d f g e = let z = eqb-true operators 4 f in (omega arith, omega arith)
-    pick false true f g e = let z = eqb-true operators 6 g in (omega arith, omega arith)
-    pick false false f g e = absurd (false≢true e)
-
-pub counted_some : (operators : ℕ) → counted operators ≡ true → 0 < operators
-counted_some operators e = (counted_range operators e).0
-
-pub counted_few : (operators : ℕ) → counted operators ≡ true → operators ≤ 6
-counted_few operators e = (counted_range operators e).1
+done_at operators first row p h = rw (drop_of_length-le row {i = first} h)
 
 -- ---- flags
 

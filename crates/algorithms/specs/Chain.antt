@@ -1,18 +1,8 @@
 -- How many operators a call takes: a chain's growth, the reuse rule, and the renderers that are known. To be believed.
 -- A list `os` here is the row from the call's first operator on.
-use Rattle.std.specs.Prelude.{ℕ, suc, ◌-◌, ◌≤◌, ◌<◌, ◌≡◌, Bool, false, cond, not, ◌&&◌, ◌||◌}
-use Rattle.std.specs.Prelude.{List, [], ◌∷◌, eqb, ltb, length, get_or, take, drop}
+use Rattle.std.specs.Prelude.{ℕ, suc, ◌-◌, Bool, false, cond, not, ◌&&◌, ◌||◌}
+use Rattle.std.specs.Prelude.{List, [], ◌∷◌, eqb, ltb, length, get_or, take, Option, Some, None}
 use Rattle.algorithms.specs.Opcode.{destination, adding, source, flagged}
-
--- the row from operator `first` on
-abbrev pub row_from : ℕ → ℕ → List ℕ → List ℕ
-row_from operators first row = drop first (take operators row)
-
--- a row of six bytes has at most six operators, and `first` is one of them
-pub record Within (operators first : ℕ) (row : List ℕ) : Type 0 where
-  pub whole : length row ≡ 6
-  pub most : operators ≤ 6
-  pub one : first < operators
 
 -- ---- why a chain ends at an operator, where `os` are the operators behind it
 
@@ -82,3 +72,7 @@ call_length operators os = cond (renders operators os (chained os)) (chained os)
 -- the operators of a call, or 0 where it has no renderer, neither as a chain nor as one operator
 unfoldable pub rendered : ℕ → List ℕ → ℕ
 rendered operators os = cond (renders operators os (call_length operators os)) (call_length operators os) 0
+
+-- a length, or that there is none
+unfoldable pub some : ℕ → Option ℕ
+some n = cond (eqb n 0) None (Some n)

@@ -1,12 +1,13 @@
--- A row's plan: its calls, and when the row is refused. To be believed, but for the last definition.
+-- A row's plan: its calls, and when the row is refused. To be believed.
 use Rattle.std.specs.Prelude.{ℕ, zero, suc, ◌+◌, ◌-◌, Bool, true, false, cond, not, ◌&&◌, ◌||◌}
-use Rattle.std.specs.Prelude.{List, [], ◌∷◌, eqb, get_or, take, set}
+use Rattle.std.specs.Prelude.{List, [], ◌∷◌, eqb, get_or, take, set, Result, Ok, Err}
 use Rattle.std.specs.Bool.{beq}
 use Rattle.algorithms.specs.Opcode.{destination, adding, source}
 use Rattle.algorithms.specs.Chain.{rendered}
 use Rattle.algorithms.specs.declared.Call.{Call}
 use Rattle.algorithms.specs.declared.Plan.{Plan}
-use Rattle.algorithms.specs.declared.Planned.{Planned}
+use Rattle.refusals.specs.declared.Refusal.{Refusal}
+use Rattle.refusals.specs.declared.Refusal.TheVariants.{WrongTable, NoRenderer, UnsetBuffer}
 
 -- the zero call, and the zero plan
 abbrev pub no_call : Call
@@ -43,20 +44,16 @@ unready is_ready c = (reading c && not (is_ready c.input)) || (c.add && not (is_
 unfoldable pub extended : Plan → Call → Plan
 extended p c = record { count = p.count + 1; calls = set p.calls p.count c }
 
--- a refusal names its operator and carries the zero plan
-abbrev pub refusal : ℕ → ℕ → Planned
-refusal number at = record { number = number; at = at; plan = no_plan }
-
 -- the row from operator `first` on, where the plan has the calls before it, and `inside` operators belong to the last
 -- of these. The first faulty call decides; in one call 3 comes before 4
-unfoldable pub plan_from : ℕ → ℕ → ℕ → Plan → List ℕ → Planned
-plan_from operators inside first p [] = record { number = 0; at = 0; plan = p }
+unfoldable pub plan_from : ℕ → ℕ → ℕ → Plan → List ℕ → Result Plan Refusal
+plan_from operators inside first p [] = Ok p
 plan_from operators (suc inside) first p (o ∷ os) = plan_from operators inside (suc first) p os
 plan_from operators zero first p (o ∷ os) =
     let n = rendered operators (o ∷ os) in
     let c = call_of first n (o ∷ os) in
-    cond (eqb n 0) (refusal 3 first)
-    (cond (unready (ready p.calls p.count) c) (refusal 4 first)
+    cond (eqb n 0) (Err (NoRenderer first))
+    (cond (unready (ready p.calls p.count) c) (Err (UnsetBuffer first))
     (plan_from operators (n - 1) (suc first) (extended p c) os))
 
 -- operators are 4 or 6
@@ -64,8 +61,9 @@ unfoldable pub counted : ℕ → Bool
 counted operators = eqb operators 4 || eqb operators 6
 
 -- what a row of six bytes, of which the first `operators` count, is compiled to
-unfoldable pub planned : ℕ → List ℕ → Planned
-planned operators row = cond (counted operators) (plan_from operators 0 0 no_plan (take operators row)) (refusal 2 0)
+unfoldable pub planned : ℕ → List ℕ → Result Plan Refusal
+planned operators row =
+    cond (counted operators) (plan_from operators 0 0 no_plan (take operators row)) (Err WrongTable)
 
 -- two plans are the same, field by field and call by call
 unfoldable pub same_call : Call → Call → Bool
@@ -85,11 +83,11 @@ same_calls (c ∷ cs) (d ∷ ds) = same_call c d && same_calls cs ds
 unfoldable pub same_plan : Plan → Plan → Bool
 same_plan p q = eqb p.count q.count && same_calls p.calls q.calls
 
+-- an answer is a plan, and this one
+unfoldable pub is_plan : Result Plan Refusal → Plan → Bool
+is_plan (Ok p) plan = same_plan p plan
+is_plan (Err e) plan = false
+
 -- a row is accepted, and this is its plan
 unfoldable pub is_plan_of : ℕ → List ℕ → Plan → Bool
-is_plan_of operators row plan = eqb (planned operators row).number 0 && same_plan plan (planned operators row).plan
-
--- a way of computing, for the walk of a row and a plan together: the plan of a plan's first k calls
-unfoldable pub first_calls : ℕ → Plan → Plan
-first_calls zero p = no_plan
-first_calls (suc k) p = extended (first_calls k p) (get_or p.calls k no_call)
+is_plan_of operators row plan = is_plan (planned operators row) plan

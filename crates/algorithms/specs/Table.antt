@@ -1,11 +1,12 @@
 -- A lent table of rows, and the row that is asked for. To be believed.
-use Rattle.std.specs.Prelude.{ℕ, ◌*◌, ◌/◌, ◌%◌, Bool, false, cond, ◌&&◌, List, [], ◌∷◌, eqb, ltb}
+use Rattle.std.specs.Prelude.{ℕ, ◌*◌, ◌/◌, ◌%◌, Bool, cond, ◌&&◌, List, [], ◌∷◌, eqb, ltb, Result, Ok, Err}
 use Rattle.std.specs.Prelude.{leb, length, get_or, take, drop}
 use Rattle.algorithms.specs.Opcode.{modulating}
-use Rattle.algorithms.specs.Plan.{refusal, counted, planned}
-use Rattle.algorithms.specs.declared.Planned.{Planned}
+use Rattle.algorithms.specs.Plan.{counted, planned}
+use Rattle.algorithms.specs.declared.Plan.{Plan}
 use Rattle.algorithms.specs.declared.Compiled.{Compiled}
-use Rattle.algorithms.specs.declared.Asked.{Asked}
+use Rattle.refusals.specs.declared.Refusal.{Refusal}
+use Rattle.refusals.specs.declared.Refusal.TheVariants.{WrongTable}
 
 -- six bytes, zero where there are none
 unfoldable pub six : List ℕ → List ℕ
@@ -25,22 +26,19 @@ unfoldable pub row_of : ℕ → List ℕ → ℕ → List ℕ
 row_of operators table row = six (take operators (drop (row * operators) table))
 
 -- whether an operator of a row modulates others; 2 too where the row has no such operator
-unfoldable pub modulator_answer : ℕ → List ℕ → ℕ → ℕ → Asked
+unfoldable pub modulator_answer : ℕ → List ℕ → ℕ → ℕ → Result Bool Refusal
 modulator_answer operators table row operator =
     cond (tabled operators table row && ltb operator operators)
-    (record { number = 0; modulates = modulating (get_or (row_of operators table row) operator 0) })
-    (record { number = 2; modulates = false })
+    (Ok (modulating (get_or (row_of operators table row) operator 0)))
+    (Err WrongTable)
 
--- a refusal's row and plan are zero
-unfoldable pub with_row : List ℕ → Planned → Compiled
-with_row bytes p = record {
-  number = p.number;
-  at = p.at;
-  row = cond (eqb p.number 0) bytes (six []);
-  plan = p.plan;
-}
+-- a row beside its plan
+unfoldable pub with_row : List ℕ → Result Plan Refusal → Result Compiled Refusal
+with_row bytes (Ok p) = Ok (record { row = bytes; plan = p })
+with_row bytes (Err e) = Err e
 
-unfoldable pub compiled : ℕ → List ℕ → ℕ → Compiled
+unfoldable pub compiled : ℕ → List ℕ → ℕ → Result Compiled Refusal
 compiled operators table row =
-    with_row (row_of operators table row)
-    (cond (tabled operators table row) (planned operators (row_of operators table row)) (refusal 2 0))
+    cond (tabled operators table row)
+    (with_row (row_of operators table row) (planned operators (row_of operators table row)))
+    (Err WrongTable)

@@ -3,19 +3,28 @@
 // too. A row has a byte for each operator, in the order in which they are rendered. An operator writes to one of four
 // buffers, the output or a scratch buffer, and is modulated by what an earlier one left in such a buffer, or by
 // feedback. A renderer is a loop made for one shape of call; the Rust looks its renderers up in a table, here a few
-// tests decide.
+// tests decide. A slice `os` is a row's operators from a call's first one on.
 #![tactic(auto)]
 
-ghost use Rattle.std.specs.Prelude.{◌≡◌, true, false, not, ◌&&◌, ◌||◌, [], ◌∷◌, ◌+◌, ◌≤◌, ◌<◌, length, get_or, take};
+ghost use Rattle.std.specs.Prelude.{◌≡◌, not, ◌&&◌, ◌||◌, [], ◌∷◌, ◌+◌, ◌≤◌, ◌<◌, length, get_or, eqb, false};
+ghost use Rattle.std.specs.Prelude.{cond, Ok, Err};
+ghost use Rattle.refusals.specs.declared.Refusal.TheVariants.{WrongTable};
 ghost use Rattle.algorithms.specs.Opcode.{destination, adding, source, flagged, modulating};
-ghost use Rattle.algorithms.specs.Chain.{row_from, Within, unmet, grown, reused, chained, call_length, rendered};
+ghost use Rattle.algorithms.specs.Chain.{unmet, grown, reused, chained, call_length, rendered, some};
 ghost use Rattle.algorithms.specs.Plan.{no_call, no_plan, call_of, reading, unready, plan_from, counted, planned};
-ghost use Rattle.algorithms.specs.Plan.{refusal, same_call, same_plan, is_plan_of, first_calls};
-ghost use Rattle.algorithms.specs.Table.{six, tabled, row_of, with_row, compiled, modulator_answer};
+ghost use Rattle.algorithms.specs.Plan.{is_plan_of};
+ghost use Rattle.algorithms.specs.Table.{six, tabled, row_of, compiled, modulator_answer};
+
+use refusals::Refusal;
+
+// A source that is no buffer: nothing modulates the operator, or feedback does. 1 and 2 are a buffer.
+pub const UNMODULATED: u8 = 0;
+
+pub const FEEDBACK: u8 = 3;
 
 // One call of a plan: n operators from `first` on, their input and output, and whether they add to the output or set
-// it. The input is the source: 0 none, 1 and 2 a buffer, 3 feedback. A feedback call's origin is its last operator.
-#[derive(Clone, Copy)]
+// it. A feedback call's origin is its last operator.
+#[derive(Clone, Copy, Debug, PartialEq, Eq)]
 pub struct Call {
     pub first: u8,
     pub n: u8,
@@ -25,37 +34,21 @@ pub struct Call {
 }
 
 // A row's calls in order; the calls behind `count` are zero.
-#[derive(Clone, Copy)]
+#[derive(Clone, Copy, Debug, PartialEq, Eq)]
 pub struct Plan {
     pub count: u8,
     pub calls: [Call; 6],
 }
 
-// A row's plan, or the number and the operator of its refusal with the zero plan.
-#[derive(Clone, Copy)]
-pub struct Planned {
-    pub number: u8,
-    pub at: u8,
-    pub plan: Plan,
-}
-
-// The same with the row's bytes, zero behind the last operator and on a refusal.
-#[derive(Clone, Copy)]
+// A row of a table, its bytes zero behind the last operator, and its plan.
+#[derive(Clone, Copy, Debug, PartialEq, Eq)]
 pub struct Compiled {
-    pub number: u8,
-    pub at: u8,
     pub row: [u8; 6],
     pub plan: Plan,
 }
 
-// Whether an operator of a row modulates others; false where there is no such operator.
-#[derive(Clone, Copy)]
-pub struct Asked {
-    pub number: u8,
-    pub modulates: bool,
-}
-
 // The buffer that an operator writes to.
+#[tactic(auto, unfolding(crate::specs::Opcode::destination))]
 pub fn destination_of(opcode: u8) -> u8
     ensures { result ≡ destination opcode }
 {
@@ -63,6 +56,7 @@ pub fn destination_of(opcode: u8) -> u8
 }
 
 // Whether it adds there.
+#[tactic(auto, unfolding(crate::specs::Opcode::adding))]
 pub fn is_adding(opcode: u8) -> bool
     ensures { result ≡ adding opcode }
 {
@@ -70,6 +64,7 @@ pub fn is_adding(opcode: u8) -> bool
 }
 
 // What modulates it.
+#[tactic(auto, unfolding(crate::specs::Opcode::source))]
 pub fn source_of(opcode: u8) -> u8
     ensures { result ≡ source opcode }
 {
@@ -77,6 +72,7 @@ pub fn source_of(opcode: u8) -> u8
 }
 
 // Whether feedback comes from it.
+#[tactic(auto, unfolding(crate::specs::Opcode::flagged))]
 fn is_flagged(opcode: u8) -> bool
     ensures { result ≡ flagged opcode }
 {
@@ -84,6 +80,7 @@ fn is_flagged(opcode: u8) -> bool
 }
 
 // Whether an operator modulates others, and is not heard itself.
+#[tactic(auto, unfolding(crate::specs::Opcode::modulating))]
 pub fn is_modulating(opcode: u8) -> bool
     ensures { result ≡ modulating opcode }
 {
@@ -92,431 +89,241 @@ pub fn is_modulating(opcode: u8) -> bool
 
 // Whether a chain goes on from an operator to the next: what it writes is what the next is modulated by, and it sets
 // it.
+#[tactic(auto, unfolding(crate::specs::Chain::unmet))]
 fn grows(from: u8, to: u8) -> bool
     ensures { result ≡ not (unmet from (to ∷ []) || adding from) }
 {
-    if destination_of(from) != source_of(to) {
-        return false;
-    }
-    !is_adding(from)
+    destination_of(from) == source_of(to) && !is_adding(from)
 }
 
-// How many operators the chain at `first` grows to.
-pub fn grow(operators: usize, row: &[u8; 6], first: usize) -> usize
-    requires { Within operators first row.now }
-    ensures { result ≡ grown (row_from operators first row.now) }
+// How many operators the chain grows to.
+pub fn grow(os: &[u8]) -> usize
+    ensures { result ≡ grown os.now }
 {
-    let mut last = first;
-    while last + 1 < operators {
-        let next = last + 1;
-        if !grows(row[last], row[next]) {
-            return next - first;
+    let mut links = 0;
+    for pair in os.windows(2) {
+        if !grows(pair[0], pair[1]) {
+            return links + 1;
         }
-        last = next;
+        links += 1;
     }
-    last + 1 - first
+    os.len()
 }
 
-// Whether the reuse rule cuts the chain at `first`, which has grown to n operators. A chain rendered as one keeps what
-// passes between its operators to itself; where the operator behind the chain is modulated by the first one's buffer
-// too, it must be left there. Algorithms 19 to 25, and 6 of those of four operators, have one modulator for several.
-pub fn is_reused(operators: usize, row: &[u8; 6], first: usize, n: usize) -> bool
-    requires { Within operators first row.now × (n ≡ grown (row_from operators first row.now)) }
-    ensures { result ≡ reused (row_from operators first row.now) }
+// Whether the reuse rule cuts the chain, which has grown to n operators. A chain rendered as one keeps what passes
+// between its operators to itself; where the operator behind the chain is modulated by the first one's buffer too, it
+// must be left there. Algorithms 19 to 25, and 6 of those of four operators, have one modulator for several.
+#[tactic(auto, unfolding(crate::specs::Chain::reused))]
+pub fn is_reused(os: &[u8], n: usize) -> bool
+    requires { n ≡ grown os.now }
+    ensures { result ≡ reused os.now }
 {
-    let next = first + n;
-    if next < operators {
-        return source_of(row[next]) == destination_of(row[first]);
-    }
-    false
+    n < os.len() && source_of(os[n]) == destination_of(os[0])
 }
 
 // How long the chain is after the reuse rule, by which it shrinks to its first operator.
-pub fn chain(operators: usize, row: &[u8; 6], first: usize) -> usize
-    requires { Within operators first row.now }
-    ensures { result ≡ chained (row_from operators first row.now) }
+#[tactic(auto, unfolding(crate::specs::Chain::chained))]
+pub fn chain(os: &[u8]) -> usize
+    ensures { result ≡ chained os.now }
 {
-    let n = grow(operators, row, first);
-    if is_reused(operators, row, first, n) {
-        return 1;
-    }
-    n
+    let n = grow(os);
+    if is_reused(os, n) { 1 } else { n }
 }
 
 // The same again after a look for a renderer. The only ones for several operators are those of algorithms 4 and 6,
 // whose feedback goes from the last of a chain to its first: no other chain is grown at all.
-pub fn call_length(operators: usize, row: &[u8; 6], first: usize) -> usize
-    requires { Within operators first row.now }
-    ensures { result ≡ call_length operators (row_from operators first row.now) }
+pub fn call_length(operators: usize, os: &[u8]) -> usize
+    requires { 0 < length os.now }
+    ensures { result ≡ call_length operators os.now }
 {
-    if source_of(row[first]) != 3 {
+    if operators != 6 || source_of(os[0]) != FEEDBACK {
         return 1;
     }
-    if operators != 6 {
-        return 1;
+    let n = chain(os);
+    let last = os[n - 1];
+    if n <= 3 && is_adding(last) && is_flagged(last) {
+        n
+    } else {
+        1
     }
-    let n = chain(operators, row, first);
-    if 3 < n {
-        return 1;
-    }
-    let last = first + n - 1;
-    if is_adding(row[last]) {
-        if is_flagged(row[last]) {
-            return n;
-        }
-    }
-    1
 }
 
-// The length of the call that has a renderer, or 0: one operator has none if it wants feedback and is no origin itself.
-pub fn rendered_length(operators: usize, row: &[u8; 6], first: usize) -> usize
-    requires { Within operators first row.now }
-    ensures { result ≡ rendered operators (row_from operators first row.now) }
+// Whether an operator wants feedback and is no origin itself: alone it has no renderer.
+fn is_originless(opcode: u8) -> bool
+    ensures { result ≡ eqb (source opcode) 3 && not (flagged opcode) }
 {
-    let n = call_length(operators, row, first);
-    if n != 1 {
-        return n;
+    source_of(opcode) == FEEDBACK && !is_flagged(opcode)
+}
+
+// The length of the call that has a renderer.
+#[tactic(auto, unfolding(crate::specs::Chain::some))]
+pub fn rendered_length(operators: usize, os: &[u8]) -> Option<usize>
+    requires { 0 < length os.now }
+    ensures { result ≡ some (rendered operators os.now) }
+{
+    let n = call_length(operators, os);
+    if n == 1 && is_originless(os[0]) {
+        None
+    } else {
+        Some(n)
     }
-    if source_of(row[first]) != 3 {
-        return 1;
-    }
-    if is_flagged(row[first]) {
-        return 1;
-    }
-    0
 }
 
 // The call of n operators from `first` on.
-pub fn call_of(operators: usize, row: &[u8; 6], first: usize, n: usize) -> Call
-    requires { Within operators first row.now × (1 ≤ n) × (first + n ≤ operators) }
-    ensures { result ≡ call_of first n (row_from operators first row.now) }
+#[tactic(auto, unfolding(crate::specs::Plan::call_of))]
+pub fn call_of(first: u8, n: usize, os: &[u8]) -> Call
+    requires { (1 ≤ n) × (n ≤ length os.now) × (first + n ≤ 6) }
+    ensures { result ≡ call_of first n os.now }
 {
-    let last = row[first + n - 1];
+    let last = os[n - 1];
     Call {
-        first: first as u8,
+        first,
         n: n as u8,
-        input: source_of(row[first]),
+        input: source_of(os[0]),
         output: destination_of(last),
         add: is_adding(last),
     }
 }
 
 // Whether a call reads a buffer.
+#[tactic(auto, unfolding(crate::specs::Plan::reading))]
 pub fn is_reading(c: Call) -> bool
     ensures { result ≡ reading c }
 {
-    if c.input == 1 {
-        return true;
-    }
-    c.input == 2
-}
-
-// Whether a buffer that is asked for lacks its flag.
-pub fn lacks(flags: &[bool; 4], asked: bool, q: u8) -> bool
-    requires { q < 4 }
-    ensures { result ≡ asked && not (get_or flags.now q false) }
-{
-    if asked {
-        let at = q as usize;
-        return !flags[at];
-    }
-    false
+    matches!(c.input, 1 | 2)
 }
 
 // Whether a call reads or adds to a buffer that is not ready.
+#[tactic(auto, unfolding(crate::specs::Plan::unready))]
 pub fn is_unready(flags: &[bool; 4], c: Call) -> bool
     requires { (c.input < 4) × (c.output < 4) }
     ensures { result ≡ unready (λ q. get_or flags.now q false) c }
 {
-    let asked = is_reading(c);
-    if lacks(flags, asked, c.input) {
-        return true;
-    }
-    lacks(flags, c.add, c.output)
-}
-
-// The zero plan, with a refusal's number and operator.
-fn refused(number: u8, at: u8) -> Planned
-    ensures { result ≡ refusal number at }
-{
-    Planned {
-        number: number,
-        at: at,
-        plan: no_plan(),
-    }
+    (is_reading(c) && !flags[c.input as usize]) || (c.add && !flags[c.output as usize])
 }
 
 pub fn no_plan() -> Plan
     ensures { result ≡ no_plan }
 {
-    let c = no_call();
-    Plan {
-        count: 0,
-        calls: [c, c, c, c, c, c],
-    }
-}
-
-fn no_call() -> Call
-    ensures { result ≡ no_call }
-{
-    Call {
+    let none = Call {
         first: 0,
         n: 0,
-        input: 0,
+        input: UNMODULATED,
         output: 0,
         add: false,
+    };
+    Plan {
+        count: 0,
+        calls: [none; 6],
     }
 }
 
 // The calls in row order. An accepted call's output is ready behind it, whether it set it or added to it.
-fn compile_calls(operators: usize, row: &[u8; 6]) -> Planned
-    requires { (length row.now ≡ 6) × (operators ≤ 6) }
-    ensures { result ≡ plan_from operators 0 0 no_plan (take operators row.now) }
+fn compile_calls(row: &[u8]) -> Result<Plan, Refusal>
+    requires { length row.now ≤ 6 }
+    ensures { result ≡ plan_from (length row.now) 0 0 no_plan row.now }
 {
     let mut flags = [true, false, false, false];
-    let none = no_call();
-    let mut calls = [none, none, none, none, none, none];
-    let mut count = 0usize;
-    let mut first = 0usize;
-    while first < operators {
-        let n = rendered_length(operators, row, first);
-        if n == 0 {
-            return refused(3, first as u8);
-        }
-        let c = call_of(operators, row, first, n);
+    let mut plan = no_plan();
+    let mut first = 0u8;
+    // Stays (d): a call takes one to three operators, so that no `for` goes from call to call.
+    while (first as usize) < row.len() {
+        let os = &row[first as usize..];
+        let Some(n) = rendered_length(row.len(), os) else {
+            return Err(Refusal::NoRenderer(first));
+        };
+        let c = call_of(first, n, os);
         if is_unready(&flags, c) {
-            return refused(4, first as u8);
+            return Err(Refusal::UnsetBuffer(first));
         }
-        let output = c.output as usize;
-        flags[output] = true;
-        calls[count] = c;
-        count = count + 1;
-        first = first + n;
+        flags[c.output as usize] = true;
+        plan.calls[plan.count as usize] = c;
+        plan.count += 1;
+        first += c.n;
     }
-    Planned {
-        number: 0,
-        at: 0,
-        plan: Plan {
-            count: count as u8,
-            calls: calls,
-        },
-    }
+    Ok(plan)
 }
 
+#[tactic(auto, unfolding(crate::specs::Plan::counted))]
 pub fn is_counted(operators: usize) -> bool
     ensures { result ≡ counted operators }
 {
-    if operators == 4 {
-        return true;
-    }
-    operators == 6
+    matches!(operators, 4 | 6)
 }
 
 // The plan of a row of six bytes, of which the first `operators` count: 2 for operators other than 4 or 6, 3 for a call
 // without a renderer, 4 for one that reads or adds to a scratch buffer that no earlier call has set.
-pub fn compile_row(operators: usize, row: [u8; 6]) -> Planned
+#[tactic(auto, unfolding(crate::specs::Plan::planned))]
+pub fn compile_row(operators: usize, row: [u8; 6]) -> Result<Plan, Refusal>
     ensures { result ≡ planned operators row }
 {
-    if is_counted(operators) {
-        return compile_calls(operators, &row);
+    if !is_counted(operators) {
+        return Err(Refusal::WrongTable);
     }
-    refused(2, 0)
+    compile_calls(&row[..operators])
 }
 
-fn same_call(c: Call, d: Call) -> bool
-    ensures { result ≡ same_call c d }
-{
-    if c.first != d.first {
-        return false;
-    }
-    if c.n != d.n {
-        return false;
-    }
-    if c.input != d.input {
-        return false;
-    }
-    if c.output != d.output {
-        return false;
-    }
-    c.add == d.add
-}
-
-// Whether two plans are equal, the unused calls with the others.
-pub fn same_plan(a: Plan, b: Plan) -> bool
-    ensures { result ≡ same_plan a b }
-{
-    if a.count != b.count {
-        return false;
-    }
-    let mut k = 0usize;
-    while k < 6 {
-        let c = a.calls[k];
-        let d = b.calls[k];
-        if !same_call(c, d) {
-            return false;
-        }
-        k = k + 1;
-    }
-    true
-}
-
-// Whether a plan has k calls and nothing behind them.
-fn ends_at(plan: Plan, k: usize) -> bool
-    requires { k ≤ 6 }
-    ensures { result ≡ same_plan plan (first_calls k plan) }
-{
-    if plan.count as usize != k {
-        return false;
-    }
-    let none = no_call();
-    let mut i = k;
-    while i < 6 {
-        let c = plan.calls[i];
-        if !same_call(c, none) {
-            return false;
-        }
-        i = i + 1;
-    }
-    true
-}
-
-// Whether a row is accepted and this is its plan. It walks the two together and builds no other plan.
+// Whether a row is accepted and this is its plan.
 pub fn is_plan_of(operators: usize, row: [u8; 6], plan: Plan) -> bool
     ensures { result ≡ is_plan_of operators row plan }
 {
-    if !is_counted(operators) {
-        return false;
-    }
-    let mut ready = [true, false, false, false];
-    let mut k = 0usize;
-    let mut first = 0usize;
-    while first < operators {
-        let n = rendered_length(operators, &row, first);
-        if n == 0 {
-            return false;
-        }
-        let c = call_of(operators, &row, first, n);
-        if is_unready(&ready, c) {
-            return false;
-        }
-        let d = plan.calls[k];
-        if !same_call(c, d) {
-            return false;
-        }
-        let output = c.output as usize;
-        ready[output] = true;
-        k = k + 1;
-        first = first + n;
-    }
-    ends_at(plan, k)
-}
-
-fn byte_at(part: &[u8], k: usize) -> u8
-    ensures { result ≡ get_or part.now k 0 }
-{
-    if k < part.len() {
-        return part[k];
-    }
-    0
+    compile_row(operators, row) == Ok(plan)
 }
 
 // A row's six bytes, zero where there are none.
+#[tactic(auto, using(crate::proofs::Tables::six_copied))]
 pub fn six_bytes(part: &[u8]) -> [u8; 6]
     ensures { result ≡ six part.now }
 {
-    let a = byte_at(part, 0);
-    let b = byte_at(part, 1);
-    let c = byte_at(part, 2);
-    let d = byte_at(part, 3);
-    let e = byte_at(part, 4);
-    let f = byte_at(part, 5);
-    [a, b, c, d, e, f]
+    let mut row = [0; 6];
+    let n = part.len().min(6);
+    row[..n].copy_from_slice(&part[..n]);
+    row
 }
 
-// Whether the operators, the table and the row number are such that there is a row.
-fn is_tabled(operators: usize, table: &[u8], row: usize) -> bool
-    ensures { result ≡ tabled operators table.now row }
+// A row of a lent table: 2 for operators other than 4 or 6, a table that is empty, not of whole rows or above 32 of
+// them, and a row number past it.
+#[tactic(auto, using(crate::proofs::Tables::counted_some), unfolding(crate::specs::Table::tabled, crate::specs::Table::row_of))]
+fn row_of(operators: usize, table: &[u8], row: usize) -> Result<[u8; 6], Refusal>
+    ensures { result ≡ cond (tabled operators table.now row)
+        (Ok (row_of operators table.now row)) (Err WrongTable) }
 {
-    if !is_counted(operators) {
-        return false;
-    }
-    if table.len() == 0 {
-        return false;
-    }
-    if table.len() % operators != 0 {
-        return false;
+    if !is_counted(operators) || table.len() % operators != 0 {
+        return Err(Refusal::WrongTable);
     }
     let rows = table.len() / operators;
     let too_many = 32 < rows;
-    if too_many {
-        return false;
+    if too_many || rows <= row {
+        return Err(Refusal::WrongTable);
     }
-    row < rows
-}
-
-fn row_of(operators: usize, table: &[u8], row: usize) -> [u8; 6]
-    requires { tabled operators table.now row ≡ true }
-    ensures { result ≡ row_of operators table.now row }
-{
     let start = row * operators;
-    let end = start + operators;
-    six_bytes(&table[start..end])
+    Ok(six_bytes(&table[start..start + operators]))
 }
 
 // Whether an operator of a row of a lent table modulates others: 2 where there is no such row, as in `compile`, or no
 // such operator in it. A row that gets 3 or 4 is answered too, since opcodes alone decide.
-pub fn is_modulator(operators: usize, table: &[u8], row: usize, operator: usize) -> Asked
+#[tactic(auto, unfolding(crate::specs::Table::modulator_answer))]
+pub fn is_modulator(
+    operators: usize,
+    table: &[u8],
+    row: usize,
+    operator: usize,
+) -> Result<bool, Refusal>
     ensures { result ≡ modulator_answer operators table.now row operator }
 {
-    if !is_tabled(operators, table, row) {
-        return Asked {
-            number: 2,
-            modulates: false,
-        };
-    }
+    let bytes = row_of(operators, table, row)?;
     if operators <= operator {
-        return Asked {
-            number: 2,
-            modulates: false,
-        };
+        return Err(Refusal::WrongTable);
     }
-    let bytes = row_of(operators, table, row);
-    Asked {
-        number: 0,
-        modulates: is_modulating(byte_at(&bytes, operator)),
-    }
+    Ok(is_modulating(bytes[operator]))
 }
 
-fn with_row(bytes: [u8; 6], p: Planned) -> Compiled
-    ensures { result ≡ with_row bytes p }
-{
-    let plan = p.plan;
-    if p.number == 0 {
-        return Compiled {
-            number: p.number,
-            at: p.at,
-            row: bytes,
-            plan: plan,
-        };
-    }
-    Compiled {
-        number: p.number,
-        at: p.at,
-        row: [0, 0, 0, 0, 0, 0],
-        plan: plan,
-    }
-}
-
-// A row of a lent table: 2 for operators other than 4 or 6, a table that is empty, not of whole rows or above 32 of
-// them, and a row number past it; then 3 and 4.
-pub fn compile(operators: usize, table: &[u8], row: usize) -> Compiled
+// A row of a lent table and its plan: 2 as above, then 3 and 4.
+#[tactic(auto, unfolding(crate::specs::Table::compiled, crate::specs::Table::with_row))]
+pub fn compile(operators: usize, table: &[u8], row: usize) -> Result<Compiled, Refusal>
     ensures { result ≡ compiled operators table.now row }
 {
-    if is_tabled(operators, table, row) {
-        let bytes = row_of(operators, table, row);
-        let p = compile_row(operators, bytes);
-        return with_row(bytes, p);
-    }
-    let p = refused(2, 0);
-    with_row([0, 0, 0, 0, 0, 0], p)
+    let row = row_of(operators, table, row)?;
+    let plan = compile_row(operators, row)?;
+    Ok(Compiled { row, plan })
 }

@@ -413,17 +413,13 @@ pub extern "C" fn bench_pieces(dump: &[u8], size: usize) -> u8 {
 // One row of six compiled; all of its plan.
 #[unsafe(no_mangle)]
 pub extern "C" fn bench_compile(a: u8, b: u8, c: u8, d: u8, e: u8, f: u8) -> u8 {
-    let planned = algorithms::compile_row(6, [a, b, c, d, e, f]);
-    let plan = planned.plan;
-    let calls = plan.calls;
-    planned.number
-        ^ plan.count
-        ^ mixed_call(calls[0])
-        ^ mixed_call(calls[1])
-        ^ mixed_call(calls[2])
-        ^ mixed_call(calls[3])
-        ^ mixed_call(calls[4])
-        ^ mixed_call(calls[5])
+    match algorithms::compile_row(6, [a, b, c, d, e, f]) {
+        Ok(plan) => plan
+            .calls
+            .iter()
+            .fold(plan.count, |mixed, c| mixed ^ mixed_call(*c)),
+        Err(refusal) => refusal.number(),
+    }
 }
 
 fn mixed_call(c: Call) -> u8 {

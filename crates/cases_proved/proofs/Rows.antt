@@ -50,7 +50,7 @@ cases_hold = (
                       refl,
                       (
                         λ a i. refl,
-                        ((refl, refl, refl), (refl, (refl, tt))),
+                        ((refl, refl), (refl, (refl, tt))),
                       ),
                     ),
                   ),

@@ -1,71 +1,68 @@
 // The envelopes' entries, after envelope.rs. An entry refuses a state with a stage above 3 (9) and a number above its
-// largest (6); every float is taken, NaN included. Its promise names the answer for every input: a refusal hands the
-// state back as it came, and 0.0 for a value. The functions themselves, for callers that have checked their state, are
-// in `envelope_inner`.
+// largest (6); every float is taken, NaN included. Its promise names the answer for every input: a refusal of an entry
+// that would change the state hands it back as it came. The functions themselves, for callers that have checked their
+// state, are in `envelope_inner`.
 #![tactic(auto)]
 
-ghost use Rattle.std.specs.Prelude.{◌≡◌};
-ghost use Rattle.envelope.specs.Answers.{operator_fits, pitch_fits, set_answer, operator_set_answer, pitch_set_answer};
-ghost use Rattle.envelope.specs.Answers.{render_answer, scrub_answer, current_value_answer, value_answer};
+ghost use Rattle.std.specs.Prelude.{◌≡◌, ◌≤◌, OnOk};
+ghost use Rattle.envelope.specs.Answers.{state_checked, operator_fits, pitch_fits, set_answer, operator_set_answer};
+ghost use Rattle.envelope.specs.Answers.{pitch_set_answer, render_answer, scrub_answer, current_value_answer};
+ghost use Rattle.envelope.specs.Answers.{value_answer};
 
+use dx_units_inner::LevelChart;
 pub use envelope_inner::{Envelope, Position, init};
+use refusals::{Refusal, Refused};
 
-// What setting gives: the number, and the envelope.
-#[derive(Clone, Copy)]
-pub struct Prepared {
-    pub number: u8,
-    pub envelope: Envelope,
-}
-
-// What a step gives: the number, the envelope, and its value there.
+// What a step gives: the envelope, and its value there.
 #[derive(Clone, Copy)]
 pub struct Rendered {
-    pub number: u8,
     pub envelope: Envelope,
     pub value: f32,
 }
 
-// What a reader gives: the number, and the value.
-#[derive(Clone, Copy)]
-pub struct Read {
-    pub number: u8,
-    pub value: f32,
+// Refuses a state with a stage that there is not.
+fn check(envelope: Envelope) -> Result<(), Refused<Envelope>>
+    ensures answer { result ≡ state_checked envelope }
+    ensures stage { OnOk result (envelope.stage ≤ 3) }
+{
+    if envelope.stage > 3 {
+        return Err(Refused {
+            refusal: Refusal::ForeignState,
+            state: envelope,
+        });
+    }
+    Ok(())
 }
 
 // Increments and levels of an envelope's own, copied as they are.
-pub fn set(envelope: Envelope, increment: [f32; 4], level: [f32; 4]) -> Prepared
+#[tactic(auto, unfolding(crate::specs::Answers::set_answer))]
+pub fn set(
+    envelope: Envelope,
+    increment: [f32; 4],
+    level: [f32; 4],
+) -> Result<Envelope, Refused<Envelope>>
     ensures { result ≡ set_answer envelope increment level }
 {
-    if envelope.stage > 3 {
-        return Prepared {
-            number: 9,
-            envelope: envelope,
-        };
-    }
-    let set = envelope_inner::set(envelope, increment, level);
-    Prepared {
-        number: 0,
-        envelope: set,
-    }
+    check(envelope)?;
+    Ok(envelope_inner::set(envelope, increment, level))
 }
 
 // The value at a time after the gate opened, from the stages' durations alone: the scrub.
-pub fn render_at_sample(envelope: Envelope, reshape: bool, t: f32, gate_duration: f32) -> Read
+#[tactic(auto, unfolding(crate::specs::Answers::scrub_answer))]
+pub fn render_at_sample(
+    envelope: Envelope,
+    reshape: bool,
+    t: f32,
+    gate_duration: f32,
+) -> Result<f32, Refusal>
     ensures { result ≡ scrub_answer reshape envelope t gate_duration }
 {
-    if envelope.stage > 3 {
-        return Read {
-            number: 9,
-            value: 0.0,
-        };
-    }
-    Read {
-        number: 0,
-        value: envelope_inner::render_at_sample(envelope, reshape, t, gate_duration),
-    }
+    check(envelope)?;
+    Ok(envelope_inner::render_at_sample(envelope, reshape, t, gate_duration))
 }
 
 // One step of an envelope, and its value there.
+#[tactic(auto, unfolding(crate::specs::Answers::render_answer))]
 pub fn render(
     envelope: Envelope,
     gate: bool,
@@ -73,119 +70,81 @@ pub fn render(
     ad_scale: f32,
     release_scale: f32,
     reshape: bool,
-) -> Rendered
+) -> Result<Rendered, Refused<Envelope>>
     ensures { result ≡ render_answer reshape gate rate ad_scale release_scale envelope }
 {
-    if envelope.stage > 3 {
-        return Rendered {
-            number: 9,
-            envelope: envelope,
-            value: 0.0,
-        };
-    }
+    check(envelope)?;
     let q = envelope_inner::render(envelope, reshape, gate, rate, ad_scale, release_scale);
     let rendered = envelope.move_to(q);
-    Rendered {
-        number: 0,
+    Ok(Rendered {
         envelope: rendered,
         value: envelope_inner::current_value(rendered, reshape),
-    }
+    })
 }
 
 // The value where the envelope stands.
-pub fn current_value(envelope: Envelope, reshape: bool) -> Read
+#[tactic(auto, unfolding(crate::specs::Answers::current_value_answer))]
+pub fn current_value(envelope: Envelope, reshape: bool) -> Result<f32, Refusal>
     ensures { result ≡ current_value_answer reshape envelope }
 {
-    if envelope.stage > 3 {
-        return Read {
-            number: 9,
-            value: 0.0,
-        };
-    }
-    Read {
-        number: 0,
-        value: envelope_inner::current_value(envelope, reshape),
-    }
+    check(envelope)?;
+    Ok(envelope_inner::current_value(envelope, reshape))
 }
 
-// The value at a phase of a stage that starts at a level.
-pub fn value(envelope: Envelope, reshape: bool, stage: usize, phase: f32, start_level: f32) -> Read
-    ensures { result ≡ value_answer reshape envelope stage phase start_level }
+// The value at a position, wherever the envelope stands.
+#[tactic(auto, unfolding(crate::specs::Answers::value_answer))]
+pub fn value(envelope: Envelope, reshape: bool, q: Position) -> Result<f32, Refusal>
+    ensures { result ≡ value_answer reshape envelope q.stage q.phase q.start }
 {
-    if envelope.stage > 3 {
-        return Read {
-            number: 9,
-            value: 0.0,
-        };
+    check(envelope)?;
+    if q.stage > 3 {
+        return Err(Refusal::Field);
     }
-    if stage > 3 {
-        return Read {
-            number: 6,
-            value: 0.0,
-        };
-    }
-    Read {
-        number: 0,
-        value: envelope_inner::value(
-            envelope,
-            reshape,
-            Position {
-                stage,
-                phase,
-                start: start_level,
-            },
-        ),
-    }
+    Ok(envelope_inner::value(envelope, reshape, q))
 }
 
 // An operator's rates, levels and global level.
-pub fn operator_set(envelope: Envelope, rate: [u8; 4], level: [u8; 4], global_level: u8) -> Prepared
+#[tactic(auto, unfolding(crate::specs::Answers::operator_set_answer))]
+pub fn operator_set(
+    envelope: Envelope,
+    rate: [u8; 4],
+    level: [u8; 4],
+    global_level: u8,
+) -> Result<Envelope, Refused<Envelope>>
     ensures { result ≡ operator_set_answer envelope rate level global_level }
 {
-    if envelope.stage > 3 {
-        return Prepared {
-            number: 9,
-            envelope: envelope,
-        };
-    }
+    check(envelope)?;
     if !operator_fits(rate, level, global_level) {
-        return Prepared {
-            number: 6,
-            envelope: envelope,
-        };
+        return Err(Refused {
+            refusal: Refusal::Field,
+            state: envelope,
+        });
     }
-    let chart = dx_units_inner::LevelChart::new();
-    let set = envelope_inner::operator_set(&chart, envelope, rate, level, global_level);
-    Prepared {
-        number: 0,
-        envelope: set,
-    }
+    let chart = LevelChart::new();
+    Ok(envelope_inner::operator_set(&chart, envelope, rate, level, global_level))
 }
 
 // The pitch's rates and levels.
-pub fn pitch_set(envelope: Envelope, rate: [u8; 4], level: [u8; 4]) -> Prepared
+#[tactic(auto, unfolding(crate::specs::Answers::pitch_set_answer))]
+pub fn pitch_set(
+    envelope: Envelope,
+    rate: [u8; 4],
+    level: [u8; 4],
+) -> Result<Envelope, Refused<Envelope>>
     ensures { result ≡ pitch_set_answer envelope rate level }
 {
-    if envelope.stage > 3 {
-        return Prepared {
-            number: 9,
-            envelope: envelope,
-        };
-    }
+    check(envelope)?;
     if !pitch_fits(rate, level) {
-        return Prepared {
-            number: 6,
-            envelope: envelope,
-        };
+        return Err(Refused {
+            refusal: Refusal::Field,
+            state: envelope,
+        });
     }
-    let set = envelope_inner::pitch_set(envelope, rate, level);
-    Prepared {
-        number: 0,
-        envelope: set,
-    }
+    Ok(envelope_inner::pitch_set(envelope, rate, level))
 }
 
 // Whether an operator's numbers are at most their largest.
+#[tactic(auto, unfolding(crate::specs::Answers::operator_fits))]
 fn operator_fits(rate: [u8; 4], level: [u8; 4], global_level: u8) -> bool
     ensures { result ≡ operator_fits rate level global_level }
 {
@@ -193,6 +152,7 @@ fn operator_fits(rate: [u8; 4], level: [u8; 4], global_level: u8) -> bool
 }
 
 // Whether rates and levels are.
+#[tactic(auto, unfolding(crate::specs::Answers::pitch_fits))]
 fn pitch_fits(rate: [u8; 4], level: [u8; 4]) -> bool
     ensures { result ≡ pitch_fits rate level }
 {

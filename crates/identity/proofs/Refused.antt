@@ -15,6 +15,10 @@ use Rattle.algorithms.specs.Chain.{last_operator, unmet, ends, grown, reused, ch
 use Rattle.algorithms.specs.Chain.{renders, call_length, rendered}
 use Rattle.algorithms.specs.Plan.{call_of, reading, ready, unready, extended, plan_from, counted, planned}
 use Rattle.algorithms.specs.Table.{six, tabled, row_of, with_row, compiled}
+use Rattle.algorithms.specs.declared.Compiled.{Compiled}
+use Rattle.std.specs.Prelude.{Result, Ok, Err}
+use Rattle.refusals.specs.declared.Refusal.{Refusal}
+use Rattle.refusals.specs.Answer.{number_given}
 use Rattle.algorithms_opcodes.specs.Opcodes.{six_operators}
 use Rattle.envelope_inner.specs.Envelope.{initialised, all_stages}
 use Rattle.lfo_inner.specs.declared.Lfo.{Lfo}
@@ -29,7 +33,7 @@ use Rattle.identity.specs.Identity.{readied, identity_of}
 -- the rows below n of the table are accepted
 unfoldable rows_accepted : ℕ → Bool
 rows_accepted zero = true
-rows_accepted (suc n) = eqb (compiled 6 six_operators n).number 0 && rows_accepted n
+rows_accepted (suc n) = eqb (number_given (compiled 6 six_operators n)) 0 && rows_accepted n
 
 all_accepted : rows_accepted 32 ≡ true
 unfolding rows_accepted destination adding source flagged last_operator unmet ends grown reused chained origin_from
@@ -41,17 +45,17 @@ is_true : (b : Bool) → T b → b ≡ true
 is_true true t = refl
 is_true false t = absurd t
 
-row_accepted_lem : (n a : ℕ) → T (rows_accepted n) → a < n → (compiled 6 six_operators a).number ≡ 0
+row_accepted_lem : (n a : ℕ) → T (rows_accepted n) → a < n → number_given (compiled 6 six_operators a) ≡ 0
 unfolding rows_accepted
 row_accepted_lem zero a t h = omega arith
 row_accepted_lem (suc n) a t h =
-    let head = eqb (compiled 6 six_operators n).number 0 in
+    let head = eqb (number_given (compiled 6 six_operators n)) 0 in
     go (eqb a n) refl (eqb-true _ 0 (is_true head (and_l head (rows_accepted n) t)))
     (λ k. row_accepted_lem n a (and_r head (rows_accepted n) t) k)
   where
-    go : (b : Bool) → eqb a n ≡ b → (compiled 6 six_operators n).number ≡ 0
-        → (a < n → (compiled 6 six_operators a).number ≡ 0) → (compiled 6 six_operators a).number ≡ 0
-    go true e here before = ap (λ (k : ℕ). (compiled 6 six_operators k).number) (eqb-true a n e) ∙ here
+    go : (b : Bool) → eqb a n ≡ b → number_given (compiled 6 six_operators n) ≡ 0
+        → (a < n → number_given (compiled 6 six_operators a) ≡ 0) → number_given (compiled 6 six_operators a) ≡ 0
+    go true e here before = ap (λ (k : ℕ). number_given (compiled 6 six_operators k)) (eqb-true a n e) ∙ here
     go false e here before = let z = eqb-false a n e in before (omega arith)
 
 -- an accepted patch names one of 32 rows
@@ -91,12 +95,18 @@ lfo_fresh : lfo.state_fits (lfo.init_answer (decimal 48000 0)).lfo ≡ true
 unfolding lfo.state_fits lfo.init_answer sample_rate_fits lfo.from_zero decimal le lt fresh_lfo
 lfo_fresh = refl
 
+loaded_number : (v : Voice) (p : Patch) (c : Result Compiled Refusal) → (voice.loaded v p c).number ≡ number_given c
+unfolding voice.loaded
+loaded_number v p (Ok c) = refl
+loaded_number v p (Err e) = refl
+
 module _ (v : Voice) (p : Patch) (state : voice.state_fits v ≡ true) where
   patch_taken : v.operators ≡ 6 → patch_fits p ≡ true → (voice.set_patch_answer v p six_operators).number ≡ 0
-  unfolding voice.set_patch_answer voice.loaded
+  unfolding voice.set_patch_answer
   patch_taken six fits =
       rw (state, fits, six)
-      (row_accepted_lem 32 p.algorithm (subst T (sym all_accepted) tt) (algorithm_of p (subst T (sym fits) tt)))
+      (loaded_number _ p (compiled 6 six_operators p.algorithm)
+      ∙ row_accepted_lem 32 p.algorithm (subst T (sym all_accepted) tt) (algorithm_of p (subst T (sym fits) tt)))
 
   patch_refused : patch_fits p ≡ false → (voice.set_patch_answer v p six_operators).number ≡ 6
   unfolding voice.set_patch_answer

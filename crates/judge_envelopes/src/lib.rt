@@ -2,9 +2,10 @@
 // On the wire it is its stage in four bytes and eleven floats.
 #![tactic(auto)]
 
-use envelope::{Prepared, Read, Rendered};
-use envelope_inner::Envelope;
+use envelope::Rendered;
+use envelope_inner::{Envelope, Position};
 use judge_wire::{Answer, Fields};
+use refusals::{Refusal, Refused};
 
 // The length of a call of the entry; 0 for no entry of this crate.
 pub fn length(entry: u8) -> usize {
@@ -32,20 +33,23 @@ pub fn answer(entry: u8, fields: &mut Fields<'_>, kept: &mut Envelope, out: &mut
             *kept = envelope::init(fields.float());
             put_envelope(out, kept);
         }
-        0x5a | 0x5b | 0x74 => set(entry, fields, kept, out),
+        0x5a | 0x5b | 0x74 => {
+            *kept = out.told(prepared(entry, fields, *kept));
+            put_envelope(out, kept);
+        }
         0x5c => render(fields, kept, out),
-        _ => put_value(out, valued(entry, fields, *kept)),
+        _ => {
+            let value = out.value(valued(entry, fields, *kept), 0.0);
+            out.float(value);
+        }
     }
 }
 
-fn set(entry: u8, fields: &mut Fields<'_>, kept: &mut Envelope, out: &mut Answer<'_>) {
-    let done = prepared(entry, fields, *kept);
-    *kept = done.envelope;
-    out.byte(done.number);
-    put_envelope(out, kept);
-}
-
-fn prepared(entry: u8, fields: &mut Fields<'_>, envelope: Envelope) -> Prepared {
+fn prepared(
+    entry: u8,
+    fields: &mut Fields<'_>,
+    envelope: Envelope,
+) -> Result<Envelope, Refused<Envelope>> {
     match entry {
         0x74 => envelope::set(envelope, fields.floats(), fields.floats()),
         0x5a => envelope::operator_set(envelope, fields.bytes(), fields.bytes(), fields.byte()),
@@ -54,14 +58,20 @@ fn prepared(entry: u8, fields: &mut Fields<'_>, envelope: Envelope) -> Prepared 
 }
 
 fn render(fields: &mut Fields<'_>, kept: &mut Envelope, out: &mut Answer<'_>) {
-    let done = rendered(fields, *kept);
+    let refused = |e: Refused<Envelope>| Refused {
+        refusal: e.refusal,
+        state: Rendered {
+            envelope: e.state,
+            value: 0.0,
+        },
+    };
+    let done = out.told(rendered(fields, *kept).map_err(refused));
     *kept = done.envelope;
-    out.byte(done.number);
     out.float(done.value);
     put_envelope(out, kept);
 }
 
-fn rendered(fields: &mut Fields<'_>, envelope: Envelope) -> Rendered {
+fn rendered(fields: &mut Fields<'_>, envelope: Envelope) -> Result<Rendered, Refused<Envelope>> {
     let reshape = fields.flag();
     let gate = fields.flag();
     let rate = fields.float();
@@ -70,21 +80,20 @@ fn rendered(fields: &mut Fields<'_>, envelope: Envelope) -> Rendered {
     envelope::render(envelope, gate, rate, ad_scale, release_scale, reshape)
 }
 
-fn valued(entry: u8, fields: &mut Fields<'_>, envelope: Envelope) -> Read {
+fn valued(entry: u8, fields: &mut Fields<'_>, envelope: Envelope) -> Result<f32, Refusal> {
     let reshape = fields.flag();
     match entry {
         0x75 => envelope::current_value(envelope, reshape),
         0x5d => envelope::render_at_sample(envelope, reshape, fields.float(), fields.float()),
         _ => {
-            let stage = fields.word() as usize;
-            envelope::value(envelope, reshape, stage, fields.float(), fields.float())
+            let q = Position {
+                stage: fields.word() as usize,
+                phase: fields.float(),
+                start: fields.float(),
+            };
+            envelope::value(envelope, reshape, q)
         }
     }
-}
-
-fn put_value(out: &mut Answer<'_>, x: Read) {
-    out.byte(x.number);
-    out.float(x.value);
 }
 
 pub fn read_envelope(fields: &mut Fields<'_>) -> Envelope {

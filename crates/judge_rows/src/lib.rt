@@ -4,8 +4,9 @@
 
 ghost use Rattle.std.specs.Prelude.{◌<◌};
 
-use algorithms::{Call, Plan};
+use algorithms::{Call, Compiled, Plan};
 use judge_wire::{Answer, Fields};
+use refusals::Refusal;
 
 // The length of the call whose fields these are, its entry's byte included; 0 for no entry of this crate.
 pub fn length(entry: u8, mut fields: Fields<'_>) -> usize {
@@ -36,7 +37,7 @@ pub fn answer(entry: u8, fields: &mut Fields<'_>, out: &mut Answer<'_>) {
         0x51 => compile_row(fields, out),
         0x52 => out.flag(algorithms::is_modulating(fields.byte())),
         0x53 => print(fields.slice(), out),
-        0x54 => out.flag(algorithms::same_plan(read_plan(fields), read_plan(fields))),
+        0x54 => out.flag(read_plan(fields) == read_plan(fields)),
         0x55 => out.bytes(&algorithms::six_bytes(fields.slice())),
         0x70 => is_plan_of(fields, out),
         0x71 => is_modulator(fields, out),
@@ -48,8 +49,11 @@ fn compile(fields: &mut Fields<'_>, out: &mut Answer<'_>) {
     let operators = fields.byte() as usize;
     let table = fields.slice();
     let row = fields.word() as usize;
-    let done = algorithms::compile(operators, table, row);
-    out.bytes(&[done.number, done.at]);
+    let zeros = Compiled {
+        row: [0; 6],
+        plan: algorithms::no_plan(),
+    };
+    let done = given(out, algorithms::compile(operators, table, row), zeros);
     out.bytes(&done.row);
     put_plan(out, &done.plan);
 }
@@ -57,8 +61,22 @@ fn compile(fields: &mut Fields<'_>, out: &mut Answer<'_>) {
 fn compile_row(fields: &mut Fields<'_>, out: &mut Answer<'_>) {
     let operators = fields.byte() as usize;
     let done = algorithms::compile_row(operators, fields.bytes());
-    out.bytes(&[done.number, done.at]);
-    put_plan(out, &done.plan);
+    let plan = given(out, done, algorithms::no_plan());
+    put_plan(out, &plan);
+}
+
+// A refusal's number and operator, or zeros; and what was answered, zeros on a refusal.
+fn given<T: Copy>(out: &mut Answer<'_>, done: Result<T, Refusal>, zeros: T) -> T {
+    match done {
+        Ok(value) => {
+            out.bytes(&[0, 0]);
+            value
+        }
+        Err(refusal) => {
+            out.bytes(&[refusal.number(), refusal.place()]);
+            zeros
+        }
+    }
 }
 
 fn is_plan_of(fields: &mut Fields<'_>, out: &mut Answer<'_>) {
@@ -73,8 +91,8 @@ fn is_modulator(fields: &mut Fields<'_>, out: &mut Answer<'_>) {
     let row = fields.word() as usize;
     let operator = fields.word() as usize;
     let done = algorithms::is_modulator(operators, table, row, operator);
-    out.byte(done.number);
-    out.flag(done.modulates);
+    let modulates = out.value(done, false);
+    out.flag(modulates);
 }
 
 // The printer's text as a slice.

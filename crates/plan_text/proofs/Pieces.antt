@@ -10,10 +10,12 @@ use mathlib.Core.List.{List, [], ◌∷◌, ◌++◌, append_assoc, append-nil}
 use lib.ListN.{length, get_or, set, drop, take, length-append, length-take}
 use lib.Dec.{eqb}
 use lib.Seq.{sets, length-sets, length-take-le, drop-cons, take-suc}
-use borrow.Author.Tests.{eq-eqb, ne_eqb, eqb-true}
 use Rattle.algorithms.specs.Plan.{no_call, planned}
 use Rattle.algorithms.specs.Table.{six}
-use Rattle.algorithms.specs.declared.Planned.{Planned}
+use Rattle.std.specs.Prelude.{Result, Ok, Err}
+use Rattle.refusals.specs.declared.Refusal.{Refusal}
+use Rattle.refusals.specs.Answer.{number_of, place_of}
+use Rattle.algorithms.specs.declared.Plan.{Plan}
 use Rattle.algorithms.proofs.Accepted.{accepted_six, planned_few}
 use Rattle.algorithms.specs.declared.Call.{Call}
 use Rattle.plan_text.specs.Text.{Written, word_none, word_at, digit, at_text, word_feedback, word_external, hex_digit}
@@ -103,26 +105,13 @@ count_size n = refl
 
 -- ---- the whole text
 
-module _ (bytes : List ℕ) (p : Planned) (e : p ≡ planned (length bytes) (six bytes)) where
+module _ (bytes : List ℕ) (p : Plan) (e : planned (length bytes) (six bytes) ≡ Ok p) where
   -- an accepted row is short, and so are the lines before the calls
-  pub row_most : p.number ≡ 0 → length bytes ≤ 6
-  row_most z = accepted_six (length bytes) (six bytes) (ap (λ (x : Planned). x.number) (sym e) ∙ z)
+  pub row_most : length bytes ≤ 6
+  row_most = accepted_six (length bytes) (six bytes) p e
 
-  pub calls_most : p.number ≡ 0 → p.plan.count ≤ 6
-  calls_most z =
-      omega (arith, row_most z, planned_few (length bytes) (six bytes), ap (λ (x : Planned). x.plan.count) e)
-
-  module _ (before after : List ℕ) (r : ℕ) where
-    pub refusal_printed : (p.number ≡ 0 → ⊥) → Written before 0 (refusal_text p.number p.at) after r
-        → Written before 0 (plan_text bytes) after r
-    unfolding plan_text planned_text
-    refusal_printed z w = rw (← e, ne_eqb p.number 0 z) w
-
-    pub plan_printed : p.number ≡ 0
-        → Written before 0 (row_text bytes ++ (count_text p.plan.count ++ calls_text (take p.plan.count p.plan.calls))) after r
-        → Written before 0 (plan_text bytes) after r
-    unfolding plan_text planned_text
-    plan_printed z w = rw (← e, eq-eqb p.number 0 z) w
+  pub calls_most : p.count ≤ 6
+  calls_most = omega (arith, row_most, planned_few (length bytes) (six bytes) p e)
 
 at_size : (number at : ℕ) → length (at_text number at) ≤ 6
 unfolding at_text
@@ -135,18 +124,13 @@ at_size number at = pick (eqb number 2)
 -- the whole text fits the buffer
 pub text_size : (bytes : List ℕ) → length (plan_text bytes) ≤ 160
 unfolding plan_text planned_text refusal_text
-text_size bytes = pick (eqb p.number 0) refl
+text_size bytes = go (planned (length bytes) (six bytes)) refl
   where
-    p : Planned
-    p = planned (length bytes) (six bytes)
-
-    pick : (b : Bool) → eqb p.number 0 ≡ b
-        → length (cond b (row_text bytes ++ (count_text p.plan.count ++ calls_text (take p.plan.count p.plan.calls))) (refusal_text p.number p.at)) ≤ 160
-    pick true e =
-        let z = eqb-true p.number 0 e in
-        let k = length-take p.plan.count p.plan.calls in
-        simp length-append (omega (arith, row_size bytes, row_most bytes p refl z, calls_most bytes p refl z, count_size p.plan.count, calls_size (take p.plan.count p.plan.calls), k))
-    pick false e = omega (arith, at_size p.number p.at)
+    go : (r : Result Plan Refusal) → planned (length bytes) (six bytes) ≡ r → length (planned_text bytes r) ≤ 160
+    go (Ok p) e =
+        let k = length-take p.count p.calls in
+        simp length-append (omega (arith, row_size bytes, row_most bytes p e, calls_most bytes p e, count_size p.count, calls_size (take p.count p.calls), k))
+    go (Err r) e = omega (arith, at_size (number_of r) (place_of r))
 
 -- what was printed lies within the buffer, and the part of the buffer that holds it is as long as it
 module _ (before after bytes : List ℕ) (r : ℕ) (l : length before ≡ 160) (w : Written before 0 (plan_text bytes) after r) where

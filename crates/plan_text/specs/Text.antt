@@ -1,8 +1,10 @@
 -- The plan printer's text as bytes, line by line. To be believed.
-use Rattle.std.specs.Prelude.{ℕ, ◌+◌, ◌/◌, ◌%◌, ◌≡◌, Bool, cond, List, [], ◌∷◌, ◌++◌, eqb, ltb, length, take}
+use Rattle.std.specs.Prelude.{ℕ, ◌+◌, ◌/◌, ◌%◌, ◌≡◌, Bool, cond, List, [], ◌∷◌, ◌++◌, eqb, ltb, length, take, Result, Ok, Err}
 use Rattle.std.proofs.lemmas.List.Edits.{sets}
 use Rattle.algorithms.specs.declared.Call.{Call}
-use Rattle.algorithms.specs.declared.Planned.{Planned}
+use Rattle.algorithms.specs.declared.Plan.{Plan}
+use Rattle.refusals.specs.declared.Refusal.{Refusal}
+use Rattle.refusals.specs.Answer.{number_of, place_of}
 use Rattle.algorithms.specs.Plan.{planned}
 use Rattle.algorithms.specs.Table.{six}
 
@@ -93,11 +95,9 @@ unfoldable pub refusal_text : ℕ → ℕ → List ℕ
 refusal_text number at = word_refused ++ (digit number ∷ at_text number at)
 
 -- the whole text for what was compiled of the bytes
-unfoldable pub planned_text : List ℕ → Planned → List ℕ
-planned_text bytes p =
-    cond (eqb p.number 0)
-    (row_text bytes ++ (count_text p.plan.count ++ calls_text (take p.plan.count p.plan.calls)))
-    (refusal_text p.number p.at)
+unfoldable pub planned_text : List ℕ → Result Plan Refusal → List ℕ
+planned_text bytes (Ok p) = row_text bytes ++ (count_text p.count ++ calls_text (take p.count p.calls))
+planned_text bytes (Err e) = refusal_text (number_of e) (place_of e)
 
 -- the whole text for a raw row; every length but 4 and 6 is refused with 2
 unfoldable pub plan_text : List ℕ → List ℕ

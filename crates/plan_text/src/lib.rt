@@ -156,12 +156,12 @@ pub fn print(bytes: &[u8], out: &mut [u8; 160]) -> usize
     ensures { Written out.old 0 (plan_text bytes.now) out.new result }
 {
     let row = algorithms::six_bytes(bytes);
-    let p = algorithms::compile_row(bytes.len(), row);
-    if p.number != 0 {
-        return put_refusal(out, p.number, p.at);
+    match algorithms::compile_row(bytes.len(), row) {
+        Ok(plan) => {
+            let a = put_row(out, bytes);
+            let b = put_count(out, a, plan.count);
+            put_calls(out, b, plan)
+        }
+        Err(refusal) => put_refusal(out, refusal.number(), refusal.place()),
     }
-    let plan = p.plan;
-    let a = put_row(out, bytes);
-    let b = put_count(out, a, plan.count);
-    put_calls(out, b, plan)
 }

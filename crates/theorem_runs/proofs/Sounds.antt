@@ -36,7 +36,7 @@ use Rattle.algorithms.specs.Chain.{renders, call_length}
 use Rattle.algorithms.specs.Chain as chain
 use Rattle.algorithms.specs.Opcode.{destination, adding, source, flagged, modulating}
 use Rattle.algorithms.specs.Plan.{call_of, reading, ready, unready, extended, plan_from, counted, planned, same_call}
-use Rattle.algorithms.specs.Plan.{same_calls, same_plan, is_plan_of}
+use Rattle.algorithms.specs.Plan.{same_calls, same_plan, is_plan, is_plan_of}
 use Rattle.algorithms.specs.Table.{six, tabled, row_of, with_row, compiled}
 use Rattle.envelope_inner.specs.Envelope.{initialised, all_stages, previous_level, start_of, line, segment, value_at}
 use Rattle.envelope_inner.specs.Envelope.{current_value}
@@ -98,7 +98,7 @@ unfolding neg add sub mul div lt eq le ne is_nan of_int to_unsigned to_signed of
     patch_fits packed.within
     last_operator unmet ends grown reused chained origin_from modulation known renders call_length chain.rendered
     destination adding source flagged modulating
-    call_of reading ready unready extended plan_from counted planned same_call same_calls same_plan is_plan_of
+    call_of reading ready unready extended plan_from counted planned same_call same_calls same_plan is_plan is_plan_of
     six tabled row_of with_row compiled
     initialised previous_level start_of jump line segment value_at current_value gated stepped_phase advanced
     envelope.bent envelope.rendered

@@ -5,7 +5,6 @@ use mathlib.Core.Bool.{Bool, true, false, cond, not, ◌&&◌}
 use mathlib.Core.List.{List, [], ◌∷◌}
 use Prim.Native.Nat.{ℕ, zero, suc, ◌-◌, ◌≤◌}
 use native.Mathlib.Omega.{arith}
-use borrow.Author.Tests.{eqb-true, eq-eqb, ne_eqb}
 use lib.Dec.{T, eqb, le→leb}
 use lib.ListN.{take}
 use lib.Ieee.{Float}
@@ -14,14 +13,17 @@ use lib.Ieee.Fits.{and_i}
 use Rattle.patch.specs.declared.Patch.{Patch}
 use Rattle.patch.specs.Packed.{patch_fits}
 use Rattle.patch_limits.specs.Ranges.{sample_rate_fits}
-use Rattle.algorithms.specs.declared.Call.{Call}
+use Rattle.std.specs.Prelude.{Result, Ok, Err, IfErr}
+use Rattle.refusals.specs.declared.Refusal.{Refusal}
+use Rattle.refusals.specs.declared.Refusal.TheVariants.{WrongTable}
+use Rattle.refusals.specs.Answer.{number_of}
 use Rattle.algorithms.specs.declared.Plan.{Plan}
 use Rattle.algorithms.specs.declared.Compiled.{Compiled}
 use Rattle.algorithms.specs.Chain.{rendered}
-use Rattle.algorithms.specs.Plan.{call_of, no_plan, ready, unready, extended, refusal, plan_from, counted, planned}
-use Rattle.algorithms.specs.Plan.{same_plan, is_plan_of}
+use Rattle.algorithms.specs.Plan.{call_of, no_plan, extended, plan_from, counted, planned, is_plan, is_plan_of}
 use Rattle.algorithms.specs.Table.{tabled, row_of, with_row, compiled}
 use Rattle.algorithms.proofs.Same.{same_plan_self}
+use Rattle.algorithms.proofs.Steps.{at_call}
 use Rattle.envelope_inner.specs.Envelope.{initialised, is_stage, all_stages}
 use Rattle.voice.specs.declared.Voice.{Voice}
 use Rattle.voice.specs.declared.Prepared.{Prepared}
@@ -93,75 +95,55 @@ no_voice_refused = refl
 
 -- ---- a patch
 
--- a row is refused with 3 or 4, a table with 2
+-- what is compiled is a row that is planned, with its plan, or a refusal that is no 9
+abbrev Compiles : ℕ → Result Compiled Refusal → Type 0
+Compiles operators (Ok c) = planned operators c.row ≡ Ok c.plan
+Compiles operators (Err e) = NoNine (number_of e)
+
+-- a row is refused with 3 or 4
 walk_number : (operators : ℕ) (os : List ℕ) (inside first : ℕ) (p : Plan)
-    → (plan_from operators inside first p os).number ≤ 4
+    → IfErr (plan_from operators inside first p os) (λ e. NoNine (number_of e))
 unfolding plan_from
-walk_number operators [] inside first p = omega arith
+walk_number operators [] inside first p = tt
 walk_number operators (o ∷ os) (suc inside) first p = walk_number operators os inside (suc first) p
 walk_number operators (o ∷ os) zero first p =
-    pick (eqb n 0) (unready (ready p.calls p.count) c)
-    (walk_number operators os (n - 1) (suc first) (extended p c))
+    at_call (λ q. IfErr q (λ e. NoNine (number_of e))) operators first p o os tt tt
+    (λ x y. walk_number operators os (rendered operators (o ∷ os) - 1) (suc first) (extended p (call_of first (rendered operators (o ∷ os)) (o ∷ os))))
+
+planned_compiles : (operators : ℕ) (bytes : List ℕ) → Compiles operators (with_row bytes (planned operators bytes))
+unfolding planned with_row
+planned_compiles operators bytes = go (counted operators) refl (plan_from operators 0 0 no_plan (take operators bytes)) refl (walk_number operators (take operators bytes) 0 0 no_plan)
   where
-    n : ℕ
-    n = rendered operators (o ∷ os)
+    go : (b : Bool) → counted operators ≡ b → (r : Result Plan Refusal)
+        → plan_from operators 0 0 no_plan (take operators bytes) ≡ r
+        → IfErr r (λ e. NoNine (number_of e)) → Compiles operators (with_row bytes (cond b r (Err WrongTable)))
+    go true x (Ok p) y h = rw (x, y) refl
+    go true x (Err e) y h = h
+    go false x r y h = tt
 
-    c : Call
-    c = call_of first n (o ∷ os)
-
-    pick : (b d : Bool) → (plan_from operators (n - 1) (suc first) (extended p c) os).number ≤ 4
-        → (cond b (refusal 3 first)
-        (cond d (refusal 4 first) (plan_from operators (n - 1) (suc first) (extended p c) os))).number ≤ 4
-    pick true d h = omega arith
-    pick false true h = omega arith
-    pick false false h = h
-
-planned_number : (operators : ℕ) (row : List ℕ) → (planned operators row).number ≤ 4
-unfolding planned
-planned_number operators row = go (counted operators)
-  where
-    go : (b : Bool) → (cond b (plan_from operators 0 0 no_plan (take operators row)) (refusal 2 0)).number ≤ 4
-    go true = walk_number operators (take operators row) 0 0 no_plan
-    go false = omega arith
-
--- what is compiled is a row that is planned, with its plan, or a number from 2 to 4
-record Compiles (operators : ℕ) (c : Compiled) : Type 0 where
-  small : c.number ≤ 4
-  accepted : c.number ≡ 0 → (planned operators c.row).number ≡ 0
-  same : c.number ≡ 0 → c.plan ≡ (planned operators c.row).plan
-
+-- a table with 2
 compiles : (operators : ℕ) (table : List ℕ) (row : ℕ) → Compiles operators (compiled operators table row)
-unfolding compiled with_row
+unfolding compiled
 compiles operators table row = go (tabled operators table row)
   where
     bytes : List ℕ
     bytes = row_of operators table row
 
-    go : (b : Bool) → Compiles operators (with_row bytes (cond b (planned operators bytes) (refusal 2 0)))
-    go true = record {
-      small = planned_number operators bytes;
-      accepted = λ e. rw (eq-eqb (planned operators bytes).number 0 e) e;
-      same = λ e. rw (eq-eqb (planned operators bytes).number 0 e);
-    }
-    go false = record { small = omega arith; accepted = λ e. absurd (omega arith); same = λ e. absurd (omega arith) }
-
-small_no_nine : (n : ℕ) → n ≤ 4 → NoNine n
-small_no_nine n h = rw (ne_eqb n 9 (λ e. omega arith)) tt
+    go : (b : Bool) → Compiles operators (cond b (with_row bytes (planned operators bytes)) (Err WrongTable))
+    go true = planned_compiles operators bytes
+    go false = tt
 
 module _ (v : Voice) (t : T (state_fits v)) where
-  with_patch_fits : (p : Patch) (row : List ℕ) (plan : Plan) → T (patch_fits p)
-      → (planned v.operators row).number ≡ 0 → plan ≡ (planned v.operators row).plan
+  with_patch_fits : (p : Patch) (row : List ℕ) (plan : Plan) → T (patch_fits p) → planned v.operators row ≡ Ok plan
       → T (state_fits (with_patch v true p row plan))
-  unfolding with_patch patch_sound is_plan_of
-  with_patch_fits p row plan u e s =
+  unfolding with_patch patch_sound is_plan_of is_plan
+  with_patch_fits p row plan u e =
       let f = state_fits_lem v t in
-      let r = planned v.operators row in
       fits_state _ (record {
         count = f.count;
         stages = f.stages;
         pitch = f.pitch;
-        patched = and_i (patch_fits p) (eqb r.number 0 && same_plan plan r.plan) u
-            (rw (s, eq-eqb r.number 0 e, same_plan_self r.plan) tt);
+        patched = and_i (patch_fits p) (is_plan (planned v.operators row) plan) u (rw (e, same_plan_self plan) tt);
       })
 
   without_patch_fits : T (state_fits (without_patch v))
@@ -173,26 +155,15 @@ module _ (v : Voice) (t : T (state_fits v)) where
   pub set_patch_keeps : (p : Patch) (table : List ℕ)
       → Kept (set_patch_answer v p table).voice (set_patch_answer v p table).number
   unfolding set_patch_answer loaded
-  set_patch_keeps p table = rw (is_true (state_fits v) t) (go (patch_fits p) refl)
+  set_patch_keeps p table =
+      rw (is_true (state_fits v) t)
+      (go (patch_fits p) refl (compiled v.operators table p.algorithm) (compiles v.operators table p.algorithm))
     where
-      c : Compiled
-      c = compiled v.operators table p.algorithm
-
-      pick : (b : Bool) → eqb c.number 0 ≡ b → patch_fits p ≡ true
-          → T (state_fits (cond b (with_patch v true p c.row c.plan) v))
-      pick true e f =
-          let k = compiles v.operators table p.algorithm in
-          let z = eqb-true c.number 0 e in
-          with_patch_fits p c.row c.plan (subst T (sym f) tt) (k.accepted z) (k.same z)
-      pick false e f = t
-
-      go : (b : Bool) → patch_fits p ≡ b
+      go : (b : Bool) → patch_fits p ≡ b → (c : Result Compiled Refusal) → Compiles v.operators c
           → Kept (cond b (loaded v p c) (not_loaded 6 v)).voice (cond b (loaded v p c) (not_loaded 6 v)).number
-      go true f = (
-        pick (eqb c.number 0) refl f,
-        small_no_nine c.number (compiles v.operators table p.algorithm).small,
-      )
-      go false f = (t, tt)
+      go true f (Ok c) k = (with_patch_fits p c.row c.plan (subst T (sym f) tt) k, tt)
+      go true f (Err e) k = (t, k)
+      go false f c k = (t, tt)
 
   pub take_patch_keeps : Kept (take_patch_answer v).voice (take_patch_answer v).number
   unfolding take_patch_answer

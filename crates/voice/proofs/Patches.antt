@@ -4,10 +4,11 @@ use mathlib.Core.Path.{◌≡◌, refl}
 use mathlib.Core.Bool.{Bool, true, false}
 use mathlib.Core.List.{List, [], ◌∷◌}
 use Prim.Native.Nat.{ℕ}
-use borrow.Author.Tests.{ne_eqb}
 use Rattle.patch.specs.declared.Patch.{Patch}
 use Rattle.patch.specs.Form.{zero_patch}
 use Rattle.patch.specs.Packed.{patch_fits}
+use Rattle.std.specs.Prelude.{Result}
+use Rattle.refusals.specs.declared.Refusal.{Refusal}
 use Rattle.algorithms.specs.declared.Compiled.{Compiled}
 use Rattle.algorithms.specs.declared.Plan.{Plan}
 use Rattle.algorithms.specs.Plan.{no_plan}
@@ -17,16 +18,6 @@ use Rattle.voice.specs.declared.Loaded.{Loaded}
 use Rattle.voice.specs.Voice.{with_patch, without_patch, with_switch}
 use Rattle.voice.specs.Answers.{state_fits, loaded, not_loaded, set_patch_answer, prepared, take_patch_answer}
 use Rattle.voice.specs.Answers.{patch_answer, set_transposing_answer}
-
-module _ (v : Voice) (p : Patch) (c : Compiled) where
-  pub load_refused : (c.number ≡ 0 → ⊥) → record { number = c.number; at = c.at; voice = v } ≡ loaded v p c
-  unfolding loaded
-  load_refused h = simp (ne_eqb c.number 0 h)
-
-  pub load_accepted : c.number ≡ 0 → {w : Voice} → w ≡ with_patch v true p c.row c.plan
-      → record { number = 0; at = c.at; voice = w } ≡ loaded v p c
-  unfolding loaded
-  load_accepted h e = simp (h, e)
 
 module _ (v : Voice) (p : Patch) (table : List ℕ) where
   pub set_patch_9 : state_fits v ≡ false → not_loaded 9 v ≡ set_patch_answer v p table
@@ -38,7 +29,7 @@ module _ (v : Voice) (p : Patch) (table : List ℕ) where
     unfolding set_patch_answer
     set_patch_6 h = rw (state, h) refl
 
-    pub set_patch_on : patch_fits p ≡ true → {c : Compiled} {r : Loaded} → c ≡ compiled v.operators table p.algorithm
+    pub set_patch_on : patch_fits p ≡ true → {c : Result Compiled Refusal} {r : Loaded} → c ≡ compiled v.operators table p.algorithm
         → r ≡ loaded v p c
         → r ≡ set_patch_answer v p table
     unfolding set_patch_answer

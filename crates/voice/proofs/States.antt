@@ -1,15 +1,18 @@
 -- Number 9, test by test, and what an accepted state has. Assumes nothing.
-use mathlib.Core.Path.{◌≡◌, refl, subst}
+use mathlib.Core.Path.{◌≡◌, refl, ap, subst}
 use mathlib.Core.Bool.{Bool, true, false, cond, ◌&&◌}
 use mathlib.Core.List.{List}
 use Prim.Native.Nat.{ℕ, ◌≤◌, ◌<◌}
-use borrow.Author.Tests.{le-leb, lt-leb, eqb-true}
-use lib.Dec.{T, eqb, leb→le}
+use borrow.Author.Tests.{le-leb, lt-leb}
+use lib.Dec.{T, leb→le}
+use lib.Ieee.Bits.{is_true}
+use Rattle.std.specs.Prelude.{Result, Ok, Err}
+use Rattle.refusals.specs.declared.Refusal.{Refusal}
 use lib.Ieee.Fits.{and_l, and_r}
 use Rattle.patch.specs.declared.Patch.{Patch}
 use Rattle.patch.specs.Packed.{patch_fits}
 use Rattle.algorithms.specs.declared.Plan.{Plan}
-use Rattle.algorithms.specs.Plan.{counted, planned, same_plan, is_plan_of}
+use Rattle.algorithms.specs.Plan.{counted, planned, same_plan, is_plan, is_plan_of}
 use Rattle.algorithms.proofs.Same.{same_plan_equal}
 use Rattle.envelope_inner.specs.Envelope.{is_stage, all_stages}
 use Rattle.voice.specs.declared.Voice.{Voice}
@@ -58,26 +61,20 @@ module _ (v : Voice) where
 
 pub record Sound (operators : ℕ) (p : Patch) (row : List ℕ) (plan : Plan) : Type 0 where
   pub fits : T (patch_fits p)
-  pub accepted : (planned operators row).number ≡ 0
-  pub same : plan ≡ (planned operators row).plan
+  pub accepted : planned operators row ≡ Ok plan
+
+is_plan_lem : (r : Result Plan Refusal) (plan : Plan) → T (is_plan r plan) → r ≡ Ok plan
+unfolding is_plan
+is_plan_lem (Ok p) plan t = ap Ok (same_plan_equal p plan (is_true (same_plan p plan) t))
+is_plan_lem (Err e) plan t = absurd t
 
 pub patch_sound_lem : (operators : ℕ) (p : Patch) (row : List ℕ) (plan : Plan) → T (patch_sound operators p row plan)
     → Sound operators p row plan
 unfolding patch_sound is_plan_of
 patch_sound_lem operators p row plan t =
     let a = patch_fits p in
-    let b = eqb (planned operators row).number 0 in
-    let c = same_plan plan (planned operators row).plan in
-    let rest = and_r a (b && c) t in
-    record {
-      fits = and_l a (b && c) t;
-      accepted = eqb-true _ _ (is_true b (and_l b c rest));
-      same = same_plan_equal _ _ (is_true c (and_r b c rest));
-    }
-  where
-    is_true : (b : Bool) → T b → b ≡ true
-    is_true true t = refl
-    is_true false t = absurd t
+    let b = is_plan (planned operators row) plan in
+    record { fits = and_l a b t; accepted = is_plan_lem (planned operators row) plan (and_r a b t) }
 
 pub record Fits (v : Voice) : Type 0 where
   pub count : T (counted v.operators)

@@ -4,11 +4,12 @@ use mathlib.Core.Path.{◌≡◌, refl}
 use mathlib.Core.Bool.{Bool, true, false, cond}
 use mathlib.Core.List.{List}
 use Prim.Native.Nat.{ℕ}
-use lib.Dec.{eqb}
 use lib.Ieee.{Float}
 use Rattle.patch.specs.declared.Patch.{Patch}
 use Rattle.patch.specs.Packed.{patch_fits}
 use Rattle.patch_limits.specs.Ranges.{sample_rate_fits}
+use Rattle.std.specs.Prelude.{Result, Ok, Err}
+use Rattle.refusals.specs.declared.Refusal.{Refusal}
 use Rattle.algorithms.specs.declared.Compiled.{Compiled}
 use Rattle.algorithms.specs.Plan.{counted}
 use Rattle.algorithms.specs.Table.{compiled}
@@ -35,20 +36,14 @@ module _ (v : Voice) where
   pub set_patch_switch : (p : Patch) (table : List ℕ)
       → (set_patch_answer v p table).voice.transposing ≡ v.transposing
   unfolding set_patch_answer loaded with_patch
-  set_patch_switch p table = go (state_fits v) (patch_fits p) (eqb c.number 0)
+  set_patch_switch p table = go (state_fits v) (patch_fits p) (compiled v.operators table p.algorithm)
     where
-      c : Compiled
-      c = compiled v.operators table p.algorithm
-
-      set : Bool → Loaded
-      set b = record { number = c.number; at = c.at; voice = cond b (with_patch v true p c.row c.plan) v }
-
-      go : (a b d : Bool) → (cond a (cond b (set d) (not_loaded 6 v)) (not_loaded 9 v)).voice.transposing
-          ≡ v.transposing
-      go true true true = refl
-      go true true false = refl
-      go true false d = refl
-      go false b d = refl
+      go : (a b : Bool) (c : Result Compiled Refusal)
+          → (cond a (cond b (loaded v p c) (not_loaded 6 v)) (not_loaded 9 v)).voice.transposing ≡ v.transposing
+      go true true (Ok c) = refl
+      go true true (Err e) = refl
+      go true false c = refl
+      go false b c = refl
 
   pub take_patch_switch : (take_patch_answer v).voice.transposing ≡ v.transposing
   unfolding take_patch_answer without_patch with_patch

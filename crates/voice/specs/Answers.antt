@@ -1,5 +1,7 @@
 -- What each entry of a voice but its block answers, refused input included, in document 01's order. Definitions only.
-use Rattle.std.specs.Prelude.{ℕ, Bool, true, false, cond, ◌&&◌, List, eqb, Float}
+use Rattle.std.specs.Prelude.{ℕ, Bool, true, false, cond, ◌&&◌, List, Float, Result, Ok, Err}
+use Rattle.refusals.specs.declared.Refusal.{Refusal}
+use Rattle.refusals.specs.Answer.{number_of, place_of}
 use Rattle.patch.specs.declared.Patch.{Patch}
 use Rattle.patch.specs.Form.{zero_patch}
 use Rattle.patch.specs.Packed.{patch_fits}
@@ -42,10 +44,9 @@ init_answer operators rate =
     (prepared 2 no_voice)
 
 -- what a compiled row makes of the voice; 3 and 4 name their operator
-unfoldable pub loaded : Voice → Patch → Compiled → Loaded
-loaded v p c =
-    let accepted = eqb c.number 0 in
-    record { number = c.number; at = c.at; voice = cond accepted (with_patch v true p c.row c.plan) v }
+unfoldable pub loaded : Voice → Patch → Result Compiled Refusal → Loaded
+loaded v p (Ok c) = record { number = 0; at = 0; voice = with_patch v true p c.row c.plan }
+loaded v p (Err e) = record { number = number_of e; at = place_of e; voice = v }
 
 abbrev pub not_loaded : ℕ → Voice → Loaded
 not_loaded number v = record { number = number; at = 0; voice = v }

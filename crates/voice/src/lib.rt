@@ -15,6 +15,7 @@ use dx_units_inner::Ratio;
 use envelope_inner::Envelope;
 use operator::{Feedback, Operator};
 use patch::Patch;
+use refusals::Refusal;
 use voice_setup::Tuned;
 
 #[derive(Clone, Copy)]
@@ -190,22 +191,21 @@ fn with_patch(v: Voice, has_patch: bool, patch: Patch, row: [u8; 6], plan: Plan)
 }
 
 // What a compiled row makes of the voice.
-fn load(v: Voice, patch: Patch, c: Compiled) -> Loaded
-    ensures { result ≡ loaded v patch c }
+#[tactic(auto, unfolding(crate::specs::Answers::loaded))]
+fn load(v: Voice, patch: Patch, compiled: Result<Compiled, Refusal>) -> Loaded
+    ensures { result ≡ loaded v patch compiled }
 {
-    if c.number != 0 {
-        return Loaded {
-            number: c.number,
-            at: c.at,
+    match compiled {
+        Ok(c) => Loaded {
+            number: 0,
+            at: 0,
+            voice: with_patch(v, true, patch, c.row, c.plan),
+        },
+        Err(refusal) => Loaded {
+            number: refusal.number(),
+            at: refusal.place(),
             voice: v,
-        };
-    }
-    let row = c.row;
-    let plan = c.plan;
-    Loaded {
-        number: 0,
-        at: c.at,
-        voice: with_patch(v, true, patch, row, plan),
+        },
     }
 }
 

@@ -9,7 +9,9 @@ use lib.ListN.{length, get_or, take}
 use lib.Ieee.{Float}
 use Rattle.algorithms.specs.Plan.{no_call, planned}
 use Rattle.algorithms.specs.Accepted.{Sound}
+use Rattle.std.specs.Prelude.{Ok}
 use Rattle.algorithms.specs.declared.Call.{Call}
+use Rattle.algorithms.specs.declared.Plan.{Plan}
 use Rattle.algorithms.proofs.Accepted.{planned_safe, planned_sound, planned_some, planned_few, accepted_six}
 use Rattle.algorithms.proofs.Accepted.{accepted_covering}
 use Rattle.voice_block.specs.Calls.{no_operator, Callable, Playable, ran}
@@ -27,47 +29,41 @@ callable operators c h some s = record {
   single = λ z. ⊎_elim (λ e. e) (λ x. absurd (z x.fed)) s.chain;
 }
 
--- what the runner requires
-pub accepted_playable : (operators : ℕ) (row : List ℕ) → (planned operators row).number ≡ 0
-    → Playable (planned operators row).plan
-accepted_playable operators row e =
-    let six = accepted_six operators row e in
-    record {
-      most = omega (arith, planned_few operators row);
-      calls = λ k i. callable operators (get_or (planned operators row).plan.calls k no_call) six
-          (planned_some operators row k i) (planned_sound operators row k i);
-    }
+module _ (operators : ℕ) (row : List ℕ) (p : Plan) (e : planned operators row ≡ Ok p) where
+  -- what the runner requires
+  pub accepted_playable : Playable p
+  accepted_playable =
+      let six = accepted_six operators row p e in
+      record {
+        most = omega (arith, planned_few operators row p e);
+        calls = λ k i. callable operators (get_or p.calls k no_call) six
+            (planned_some operators row p e k i) (planned_sound operators row p e k i);
+      }
 
-module _ (operators : ℕ) (row : List ℕ) (pairs : List Float) (steps : List ℕ) (targets : List Float) (amount : ℕ)
-    (v : Operators) (block : List Float) where
-  -- the kernel of demand 3
-  pub planned_same : (other : List Float) → length block ≡ length other
-      → take (length block / 4) block ≡ take (length block / 4) other
-      → ((ran pairs (planned operators row).plan steps targets amount v block).operators
-      ≡ (ran pairs (planned operators row).plan steps targets amount v other).operators)
-      × (take (length block / 4) (ran pairs (planned operators row).plan steps targets amount v block).block
-      ≡ take (length block / 4) (ran pairs (planned operators row).plan steps targets amount v other).block)
-  planned_same other h f =
-      same_sound pairs (planned operators row).plan steps targets amount v block other (planned_safe operators row) h f
+  module _ (pairs : List Float) (steps : List ℕ) (targets : List Float) (amount : ℕ) (v : Operators)
+      (block : List Float) where
+    -- the kernel of demand 3
+    pub planned_same : (other : List Float) → length block ≡ length other
+        → take (length block / 4) block ≡ take (length block / 4) other
+        → ((ran pairs p steps targets amount v block).operators ≡ (ran pairs p steps targets amount v other).operators)
+        × (take (length block / 4) (ran pairs p steps targets amount v block).block
+        ≡ take (length block / 4) (ran pairs p steps targets amount v other).block)
+    planned_same other h f =
+        same_sound pairs p steps targets amount v block other (planned_safe operators row p e) h f
 
-  -- of an accepted row
-  module _ (l : length row ≡ 6) (e : (planned operators row).number ≡ 0) (six : length v.operator ≡ 6)
-      (whole : length block % 4 ≡ 0) (j : ℕ) where
-    -- the phases of the row's operators
-    pub accepted_phases : j < operators → (get_or v.operator j no_operator).phase < 2 ^ 32
-        → (get_or (ran pairs (planned operators row).plan steps targets amount v block).operators.operator
-        j no_operator).phase
-        ≡ ((get_or v.operator j no_operator).phase + length block / 4 * get_or steps j 0) % 2 ^ 32
-    accepted_phases =
-        plan_phases pairs (planned operators row).plan steps targets amount operators v block
-        (accepted_covering operators row l e) (planned_sound operators row)
-        (omega (arith, accepted_six operators row e)) whole j
+    module _ (l : length row ≡ 6) (six : length v.operator ≡ 6) (whole : length block % 4 ≡ 0) (j : ℕ) where
+      -- the phases of the row's operators
+      pub accepted_phases : j < operators → (get_or v.operator j no_operator).phase < 2 ^ 32
+          → (get_or (ran pairs p steps targets amount v block).operators.operator j no_operator).phase
+          ≡ ((get_or v.operator j no_operator).phase + length block / 4 * get_or steps j 0) % 2 ^ 32
+      accepted_phases =
+          plan_phases pairs p steps targets amount operators v block (accepted_covering operators row p e l)
+          (planned_sound operators row p e) (omega (arith, accepted_six operators row p e)) whole j
 
-    -- and the operators behind them
-    pub accepted_others : operators ≤ j
-        → get_or (ran pairs (planned operators row).plan steps targets amount v block).operators.operator j no_operator
-        ≡ get_or v.operator j no_operator
-    accepted_others =
-        plan_others pairs (planned operators row).plan steps targets amount operators v block
-        (accepted_covering operators row l e) (planned_sound operators row)
-        (omega (arith, accepted_six operators row e)) whole j
+      -- and the operators behind them
+      pub accepted_others : operators ≤ j
+          → get_or (ran pairs p steps targets amount v block).operators.operator j no_operator
+          ≡ get_or v.operator j no_operator
+      accepted_others =
+          plan_others pairs p steps targets amount operators v block (accepted_covering operators row p e l)
+          (planned_sound operators row p e) (omega (arith, accepted_six operators row p e)) whole j

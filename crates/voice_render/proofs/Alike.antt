@@ -80,7 +80,7 @@ module _ (pairs high low : List Float) (v : Voice) (p : VoiceParameters) (one ot
       let n = length one in
       let t : T (state_fits v) = subst T (sym fits) tt in
       let s = stored v t (clean_has v t clean) in
-      let safe : SafePlan v.plan = rw s.same (planned_safe v.operators v.row) in
+      let safe : SafePlan v.plan = planned_safe v.operators v.row v.plan s.accepted in
       let levels = levels_for pairs high low v p (n / 4) in
       let firsts = sym (output_fits n one refl size) ∙ o ∙ output_fits n other (sym l) size in
       let before : Operators = record { operator = entering v p; feedback_state = v.feedback_state } in

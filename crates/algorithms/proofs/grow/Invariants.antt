@@ -1,14 +1,17 @@
--- `algorithms::grow` meets its contract. The loop's invariant: the chain from `first` is as long as what was passed
--- and the chain from `last` on. Assumes nothing.
-use Prim.Native.Nat.{◌≤◌, ◌<◌, ◌+◌, ◌-◌}
+-- `algorithms::grow` meets its contract. The loop's invariant: the chain is as long as the links and the chain behind
+-- them. Assumes nothing.
+use Prim.Native.Nat.{◌≤◌, ◌+◌, ◌-◌}
 use mathlib.Core.Path.{◌≡◌}
-use Rattle.algorithms.specs.Chain.{row_from, grown}
+use lib.ListN.{length, drop}
+use Rattle.std.specs.Slice.Iter.{windows_size, windows_rest}
+use Rattle.algorithms.specs.Chain.{grown}
 use Rattle.algorithms.proofs.grow.Given as goal
 
-abbrev pub invariant-loop-last : goal.invariant-loop-last
-invariant-loop-last l =
-    (l.first ≤ l.last) × (l.last < l.operators)
-    × (grown (row_from l.operators l.first l.row) ≡ (l.last - l.first) + grown (row_from l.operators l.last l.row))
-
-abbrev pub decreases-loop-last : goal.decreases-loop-last
-decreases-loop-last l = l.operators - l.last
+abbrev pub invariant-loop-pair : goal.invariant-loop-pair
+invariant-loop-pair l = record {
+  two : windows_size l.pair-iterator ≡ 2;
+  within : length (windows_rest l.pair-iterator) ≤ length l.os;
+  rest : windows_rest l.pair-iterator ≡ drop (length l.os - length (windows_rest l.pair-iterator)) l.os;
+  passed : l.links + length (windows_rest l.pair-iterator) ≡ length l.os;
+  chain : grown l.os ≡ l.links + grown (drop l.links l.os);
+}

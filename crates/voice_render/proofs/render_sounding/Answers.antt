@@ -1,7 +1,5 @@
 -- `voice_render::render_sounding` meets its contract. Assumes nothing.
 use native.Mathlib.Omega.{arith}
-use mathlib.Core.Path.{sym, subst}
-use Rattle.voice_block.specs.Calls.{Playable}
 use Rattle.voice_block.proofs.Accepted.{accepted_playable}
 use Rattle.voice.proofs.States.{state_fits_lem, stored, clean_has}
 use Rattle.voice_render.proofs.Blocks.{count_at_most_6, operators_of, block_small, block_whole, sounded_of}
@@ -24,7 +22,7 @@ level_operators-l-requires c =
 pub run_plan-os-requires : goal.run_plan-os-requires
 run_plan-os-requires c =
     let sound = stored _ c.requires.0 (clean_has _ c.requires.0 c.requires.1) in (
-      subst Playable (sym sound.same) (accepted_playable _ _ sound.accepted),
+      accepted_playable _ _ _ sound.accepted,
       block_small _ c.requires.2,
       block_whole _ c.requires.2,
     )
