@@ -1,6 +1,6 @@
 // Voices: what was given, and what came back.
 use crate::{heading, line};
-use dx_units_step::{Mark, Marked};
+use dx_units_step::Mark;
 use patch::Patch;
 use streams::Streams;
 use voice::Voice;
@@ -97,8 +97,7 @@ fn blocks(to: Streams, going: bool) -> bool {
 }
 
 // A mark's digit: 0 as asked, 1 held at the top, 2 held at zero.
-fn digit(m: Marked) -> u8 {
-    let mark = m.mark;
+fn digit(mark: Mark) -> u8 {
     match mark {
         Mark::AsAsked => b'0',
         Mark::HeldAtTop => b'1',

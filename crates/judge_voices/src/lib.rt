@@ -197,8 +197,8 @@ fn render(entry: u8, fields: &mut Fields<'_>, kept: &mut Voice, out: &mut Answer
     let done = rendered(given, *kept, p, block);
     *kept = done.voice;
     out.byte(done.number);
-    for marked in &done.marks {
-        judge_units::put_mark(out, marked.mark);
+    for mark in &done.marks {
+        judge_units::put_mark(out, *mark);
     }
     if entry == 0x89 {
         out.eight(digest(block, &written(kept)));

@@ -9,7 +9,6 @@ use Rattle.units.specs.Ratio.{ratio_of}
 use Rattle.dx_units_power.specs.Pow.{pow2_fast}
 use Rattle.dx_units_step.specs.declared.Mark.{Mark}
 use Rattle.dx_units_step.specs.declared.Mark.TheVariants.{AsAsked}
-use Rattle.dx_units_step.specs.declared.Marked.{Marked}
 use Rattle.dx_units_step.specs.declared.Stepped.{Stepped}
 use Rattle.dx_units_step.specs.Step.{step_for, mark_for, stepped_for}
 use Rattle.dx_units_inner.specs.Units.{rate_scaling_of, keyboard_scaling_of, amp_mod_sensitivity_of}
@@ -120,20 +119,16 @@ leveled g o tuned headroom opcode e =
       amplitude = amplitude_of g.amp_mod o.amp_mod_sensitivity (f.value ⊕ scaling_of g o headroom opcode);
     }
 
--- a mark as an element of an array
-abbrev pub marked : Mark → Marked
-marked m = record { mark = m }
-
 -- the marks of six operators whose pitches are all as asked
-unfoldable pub all_as_asked : List Marked
-all_as_asked = replicate 6 (marked AsAsked)
+unfoldable pub all_as_asked : List Mark
+all_as_asked = replicate 6 AsAsked
 
 -- operator i put in its place
 unfoldable pub put_at : ℕ → Leveled → Levels → Levels
 put_at i one l = record {
   operator_envelope = set l.operator_envelope i one.envelope;
   steps = set l.steps i one.step;
-  marks = set l.marks i (marked one.mark);
+  marks = set l.marks i one.mark;
   amplitudes = set l.amplitudes i one.amplitude;
 }
 

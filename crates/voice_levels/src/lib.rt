@@ -11,7 +11,7 @@ ghost use Rattle.voice_levels.specs.Levels.{brightness_of, taken, raised, raised
 ghost use Rattle.voice_levels.specs.Levels.{all_as_asked, leveled_to};
 
 use dx_units_inner::Ratio;
-use dx_units_step::{Mark, Marked};
+use dx_units_step::Mark;
 use envelope_inner::{Envelope, Position};
 use voice_setup::Tuned;
 
@@ -68,7 +68,7 @@ pub struct Raised {
 pub struct Levels {
     pub operator_envelope: [Envelope; 6],
     pub steps: [u32; 6],
-    pub marks: [Marked; 6],
+    pub marks: [Mark; 6],
     pub amplitudes: [f32; 6],
 }
 
@@ -206,13 +206,10 @@ fn amplitude(amp_mod: f32, sensitivity: u8, level: f32) -> f32
 }
 
 // The marks of six operators whose pitches are all as asked.
-pub fn all_as_asked() -> [Marked; 6]
+pub fn all_as_asked() -> [Mark; 6]
     ensures { result ≡ all_as_asked }
 {
-    let m = Marked {
-        mark: Mark::AsAsked,
-    };
-    [m, m, m, m, m, m]
+    [Mark::AsAsked; 6]
 }
 
 // An operator's envelope and level.
@@ -261,10 +258,8 @@ fn raise_operators(
     while i < operators {
         let tuned = ratios[i];
         let s = dx_units_step::frequency_step(frequency(g, tuned));
-        let mark = s.mark;
-        let marked = Marked { mark };
         l.steps[i] = s.step;
-        l.marks[i] = marked;
+        l.marks[i] = s.mark;
         let o = op[i];
         let e = operator_envelope[i];
         let one = raise_operator(g, o, level_headroom[i], row[i], e);
