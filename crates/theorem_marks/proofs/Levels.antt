@@ -9,14 +9,14 @@ use lib.Dec.{eqb}
 use lib.ListN.{get_or, length, length-set, replicate}
 use lib.Seq.{get_or-set_same, get_or-set_other}
 use lib.Ieee.{Float}
+use Rattle.dx_units_inner.specs.declared.Ratio.{Ratio}
 use Rattle.dx_units_step.specs.declared.Mark.TheVariants.{AsAsked}
 use Rattle.dx_units_step.specs.declared.Mark.{Mark}
 use Rattle.dx_units_step.specs.Step.{mark_for}
 use Rattle.envelope_inner.specs.declared.Envelope.{Envelope}
 use Rattle.patch.specs.declared.Operator.{Operator}
-use Rattle.voice_setup.specs.declared.Tuned.{Tuned}
 use Rattle.voice_levels.specs.declared.Scene.{Scene}
-use Rattle.voice_levels.specs.Levels.{frequency_of, all_as_asked, leveled, put_at, no_tuned, leveled_to}
+use Rattle.voice_levels.specs.Levels.{frequency_of, all_as_asked, leveled, put_at, no_ratio, leveled_to}
 
 replicated : (n k : ℕ) (m : Mark) → get_or (replicate n m) k m ≡ m
 replicated zero k m = refl
@@ -27,7 +27,7 @@ pub all_as_asked_lem : (k : ℕ) → get_or all_as_asked k AsAsked ≡ AsAsked
 unfolding all_as_asked
 all_as_asked_lem k = replicated 6 k AsAsked
 
-module _ (g : Scene) (ops : List Operator) (ratios : List Tuned) (headrooms : List Float) (row : List ℕ)
+module _ (g : Scene) (ops : List Operator) (ratios : List Ratio) (headrooms : List Float) (row : List ℕ)
     (es : List Envelope) where
   abbrev marks : ℕ → List Mark
   marks n = (leveled_to g ops ratios headrooms row es n).marks
@@ -38,7 +38,7 @@ module _ (g : Scene) (ops : List Operator) (ratios : List Tuned) (headrooms : Li
   marks_length (suc n) = length-set (marks n) n _ ∙ marks_length n
 
   abbrev its_own : ℕ → Mark
-  its_own k = mark_for (frequency_of g (get_or ratios k no_tuned))
+  its_own k = mark_for (frequency_of g (get_or ratios k no_ratio))
 
   pub mark_of : (n k : ℕ) → k < n → n ≤ 6 → get_or (marks n) k AsAsked ≡ its_own k
   unfolding leveled_to put_at leveled

@@ -20,7 +20,6 @@ use Rattle.envelope_inner.specs.Scrub.{scrubbed}
 use Rattle.patch.specs.declared.Operator.{Operator}
 use Rattle.patch.specs.Form.{operator_at}
 use Rattle.algorithms.specs.Opcode.{modulating}
-use Rattle.voice_setup.specs.declared.Tuned.{Tuned}
 use Rattle.voice_setup.specs.Setup.{envelope_at}
 use Rattle.voice_levels.specs.declared.Timing.{Timing}
 use Rattle.voice_levels.specs.declared.Followed.{Followed}
@@ -68,8 +67,8 @@ unfoldable pub frequency_by : Float → Float → Ratio → Float
 frequency_by f0 one_hz (Note r) = r ⊗ f0
 frequency_by f0 one_hz (Hertz r) = r ⊗ one_hz
 
-abbrev pub frequency_of : Scene → Tuned → Float
-frequency_of g t = frequency_by g.f0 g.one_hz t.ratio
+abbrev pub frequency_of : Scene → Ratio → Float
+frequency_of g r = frequency_by g.f0 g.one_hz r
 
 -- ---- levels
 
@@ -108,14 +107,14 @@ pub record Leveled : Type 0 where
   pub mark : Mark
   pub amplitude : Float
 
-unfoldable pub leveled : Scene → Operator → Tuned → Float → ℕ → Envelope → Leveled
-leveled g o tuned headroom opcode e =
+unfoldable pub leveled : Scene → Operator → Ratio → Float → ℕ → Envelope → Leveled
+leveled g o ratio headroom opcode e =
     let rate = g.timing.envelope_rate ⊗ rate_scaling_of g.note o.rate_scaling in
     let f = followed g.timing true rate e in
     record {
       envelope = f.envelope;
-      step = step_for (frequency_of g tuned);
-      mark = mark_for (frequency_of g tuned);
+      step = step_for (frequency_of g ratio);
+      mark = mark_for (frequency_of g ratio);
       amplitude = amplitude_of g.amp_mod o.amp_mod_sensitivity (f.value ⊕ scaling_of g o headroom opcode);
     }
 
@@ -133,8 +132,8 @@ put_at i one l = record {
 }
 
 -- what stands past the last ratio: nothing asks for it
-abbrev pub no_tuned : Tuned
-no_tuned = record { ratio = Note nan }
+abbrev pub no_ratio : Ratio
+no_ratio = Note nan
 
 -- no operator yet: envelopes as they are, steps and amplitudes 0, pitches as asked
 abbrev pub unleveled : List Envelope → Levels
@@ -147,13 +146,13 @@ unleveled es = record {
 
 -- the first operators, in order
 module _
-    (g : Scene) (ops : List Operator) (ratios : List Tuned) (headrooms : List Float) (row : List ℕ) (es : List Envelope)
+    (g : Scene) (ops : List Operator) (ratios : List Ratio) (headrooms : List Float) (row : List ℕ) (es : List Envelope)
   where
     unfoldable pub leveled_to : ℕ → Levels
     leveled_to zero = unleveled es
     leveled_to (suc k) =
         let one =
-        leveled g (operator_at ops k) (get_or ratios k no_tuned) (get_or headrooms k nan) (get_or row k 0)
+        leveled g (operator_at ops k) (get_or ratios k no_ratio) (get_or headrooms k nan) (get_or row k 0)
         (envelope_at es k)
         in
         put_at k one (leveled_to k)
@@ -176,7 +175,7 @@ abbrev pub stepped_with : Stepped → Followed → Leveled
 stepped_with s f = record { envelope = f.envelope; step = s.step; mark = s.mark; amplitude = f.value }
 
 module _
-    (g : Scene) (ops : List Operator) (ratios : List Tuned) (headrooms : List Float) (row : List ℕ) (es : List Envelope)
+    (g : Scene) (ops : List Operator) (ratios : List Ratio) (headrooms : List Float) (row : List ℕ) (es : List Envelope)
   where
     unfoldable pub raised_to : ℕ → Levels
     raised_to zero = unleveled es
@@ -184,7 +183,7 @@ module _
         let one =
         raised g (operator_at ops k) (get_or headrooms k nan) (get_or row k 0) (envelope_at es k)
         in
-        put_at k (stepped_with (stepped_for (frequency_of g (get_or ratios k no_tuned))) one) (raised_to k)
+        put_at k (stepped_with (stepped_for (frequency_of g (get_or ratios k no_ratio))) one) (raised_to k)
 
 -- then the amplitudes of the first levels
 module _ (g : Scene) (ops : List Operator) where

@@ -13,7 +13,6 @@ ghost use Rattle.voice_levels.specs.Levels.{all_as_asked, leveled_to};
 use dx_units_inner::Ratio;
 use dx_units_step::Mark;
 use envelope_inner::{Envelope, Position};
-use voice_setup::Tuned;
 
 // What is left of a level where there is no amplitude modulation: 1 less the power of -6.4.
 const LEVEL_MOD_AT_REST: f32 = 0.9881440401;
@@ -158,10 +157,9 @@ fn brightness_of(brightness: f32, opcode: u8) -> f32
 }
 
 // An operator's frequency in turns a sample.
-fn frequency(g: Scene, tuned: Tuned) -> f32
-    ensures { result ≡ frequency_of g tuned }
+fn frequency(g: Scene, ratio: Ratio) -> f32
+    ensures { result ≡ frequency_of g ratio }
 {
-    let ratio = tuned.ratio;
     match ratio {
         Ratio::Note(r) => r * g.f0,
         Ratio::Hertz(r) => r * g.one_hz,
@@ -241,7 +239,7 @@ fn raise_operators(
     g: Scene,
     operators: usize,
     op: [patch::Operator; 6],
-    ratios: [Tuned; 6],
+    ratios: [Ratio; 6],
     level_headroom: [f32; 6],
 ) -> Levels
     requires { (operators ≤ 6) × T (all_stages operator_envelope) }
@@ -256,8 +254,7 @@ fn raise_operators(
     };
     let mut i = 0usize;
     while i < operators {
-        let tuned = ratios[i];
-        let s = dx_units_step::frequency_step(frequency(g, tuned));
+        let s = dx_units_step::frequency_step(frequency(g, ratios[i]));
         l.steps[i] = s.step;
         l.marks[i] = s.mark;
         let o = op[i];
@@ -292,7 +289,7 @@ pub fn level_operators(
     g: Scene,
     operators: usize,
     op: [patch::Operator; 6],
-    ratios: [Tuned; 6],
+    ratios: [Ratio; 6],
     level_headroom: [f32; 6],
     row: [u8; 6],
     operator_envelope: [Envelope; 6],
