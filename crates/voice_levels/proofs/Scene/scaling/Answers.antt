@@ -1,8 +1,8 @@
--- `voice_levels::scaling` meets its contract. Assumes nothing.
+-- `voice_levels::Scene::scaling` meets its contract. Assumes nothing.
 use lib.Ieee.{of_bits}
 use Rattle.numbers.specs.F32.{decimal}
 use Rattle.voice_levels.specs.Levels.{scaling_of}
-use Rattle.voice_levels.proofs.scaling.Goals as goal
+use Rattle.voice_levels.proofs.Scene.scaling.Goals as goal
 
 pub returns : goal.returns
 unfolding scaling_of decimal of_bits

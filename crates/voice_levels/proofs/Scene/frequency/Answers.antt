@@ -1,6 +1,6 @@
--- `voice_levels::frequency` meets its contract. Assumes nothing.
+-- `voice_levels::Scene::frequency` meets its contract. Assumes nothing.
 use Rattle.voice_levels.specs.Levels.{frequency_by}
-use Rattle.voice_levels.proofs.frequency.Goals as goal
+use Rattle.voice_levels.proofs.Scene.frequency.Goals as goal
 
 pub returns-in-Note : goal.returns-in-Note
 unfolding frequency_by
