@@ -89,6 +89,7 @@ pub fn enter(operator: Operator, step: u32, target: f32, ramp: f32) -> Lane
 }
 
 // And at its end.
+#[tactic(auto, unfolding(crate::specs::Sample::operator_of))]
 pub fn leave(lane: Lane) -> Operator
     ensures { result ≡ operator_of lane }
 {
@@ -99,6 +100,7 @@ pub fn leave(lane: Lane) -> Operator
 }
 
 // An operator's sample at the phase that it moves on to.
+#[tactic(auto, unfolding(crate::specs::Sample::sampled))]
 fn sample(pairs: &[f32; 1024], lane: Lane, pm: f32) -> f32
     ensures { result ≡ sampled pairs.now lane pm }
 {
@@ -106,6 +108,7 @@ fn sample(pairs: &[f32; 1024], lane: Lane, pm: f32) -> f32
 }
 
 // The operator after a sample.
+#[tactic(auto, unfolding(crate::specs::Sample::moved))]
 fn advance(lane: Lane) -> Lane
     ensures { result ≡ moved lane }
 {
@@ -118,6 +121,7 @@ fn advance(lane: Lane) -> Lane
 }
 
 // The modulation that feedback gives.
+#[tactic(auto, unfolding(crate::specs::Sample::fed))]
 fn feed(feedback: Feedback, feedback_scale: f32) -> f32
     ensures { result ≡ fed feedback feedback_scale }
 {
@@ -125,6 +129,7 @@ fn feed(feedback: Feedback, feedback_scale: f32) -> f32
 }
 
 // The feedback after a sample of its origin.
+#[tactic(auto, unfolding(crate::specs::Sample::pushed))]
 fn push(feedback: Feedback, pm: f32) -> Feedback
     ensures { result ≡ pushed feedback pm }
 {
@@ -135,6 +140,7 @@ fn push(feedback: Feedback, pm: f32) -> Feedback
 }
 
 // Added to what stands there, or set.
+#[tactic(auto, unfolding(crate::specs::Sample::mixed))]
 fn mix(add: bool, there: f32, pm: f32) -> f32
     ensures { result ≡ mixed add there pm }
 {
@@ -162,6 +168,7 @@ trait Modulation: Copy {
 #[derive(Clone, Copy)]
 struct Unmodulated;
 
+#[tactic(auto, unfolding(crate::specs::Chain::entered, crate::specs::Chain::kept))]
 impl Modulation for Unmodulated {
     ghost source = { λ _. Source.none };
 
@@ -182,6 +189,7 @@ struct External<'a> {
     samples: &'a [f32],
 }
 
+#[tactic(auto, unfolding(crate::specs::Chain::entered, crate::specs::Chain::kept))]
 impl Modulation for External<'_> {
     ghost source = { λ m. Source.external m.samples.now };
 
@@ -202,6 +210,7 @@ struct Own {
     feedback_scale: f32,
 }
 
+#[tactic(auto, unfolding(crate::specs::Chain::entered, crate::specs::Chain::kept))]
 impl Modulation for Own {
     ghost source = { λ m. Source.feedback m.feedback_scale };
 

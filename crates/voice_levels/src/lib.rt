@@ -176,6 +176,7 @@ fn amplitude(amp_mod: f32, sensitivity: u8, level: f32) -> f32
 }
 
 // The marks of six operators whose pitches are all as asked.
+#[tactic(auto, unfolding(crate::specs::Levels::all_as_asked))]
 pub fn all_as_asked() -> [Mark; 6]
     ensures { result ≡ all_as_asked }
 {
@@ -184,6 +185,7 @@ pub fn all_as_asked() -> [Mark; 6]
 
 impl Scene {
     // An operator's frequency in turns a sample.
+    #[tactic(auto, unfolding(crate::specs::Levels::frequency_by))]
     fn frequency(self, ratio: Ratio) -> f32
         ensures { result ≡ frequency_of self ratio }
     {

@@ -27,6 +27,7 @@ pub struct Setup {
 
 // The level increase caused by keyboard scaling plus velocity scaling is held at this number: more would be an operator
 // with a level above 99.
+#[tactic(auto, unfolding(crate::specs::Setup::headroom_of))]
 fn headroom(level: u8) -> f32
     requires { level ≤ 127 }
     ensures { result ≡ headroom_of level }

@@ -1,8 +1,0 @@
--- `operator::ExternalModulation::enter` meets its contract. Assumes nothing.
-use Rattle.std.proofs.Common.{rules}
-use Rattle.operator.specs.Chain.{entered}
-use Rattle.operator.proofs.ExternalModulation.enter.Goals as goal
-
-pub returns : goal.returns
-unfolding entered
-returns c = search rules

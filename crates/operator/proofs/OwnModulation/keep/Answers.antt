@@ -1,8 +1,0 @@
--- `operator::OwnModulation::keep` meets its contract. Assumes nothing.
-use Rattle.std.proofs.Common.{rules}
-use Rattle.operator.specs.Chain.{kept}
-use Rattle.operator.proofs.OwnModulation.keep.Goals as goal
-
-pub returns : goal.returns
-unfolding kept
-returns c = search rules
