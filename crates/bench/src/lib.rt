@@ -43,7 +43,7 @@ fn sine_block(lut: &[f32; 1024], phase: u32, step: u32, pm: f32, pm_step: f32, o
 // One operator with its feedback at rest.
 fn silent() -> Chain<1> {
     Chain {
-        lanes: [operator::enter(operator::Operator::new(), 0, 0.0, 0.0)],
+        lanes: [operator::Operator::new().enter(0, 0.0, 0.0)],
         feedback: Feedback {
             previous_0: 0.0,
             previous_1: 0.0,
@@ -55,9 +55,9 @@ fn silent() -> Chain<1> {
 fn entered(chain: Chain<1>, size: u32, frequency: f32, target: f32) -> Chain<1> {
     let stepped = dx_units::frequency_step(frequency);
     let [lane] = chain.lanes;
-    let left = operator::leave(lane);
+    let ramp = operator::ramp_scale(size);
     Chain {
-        lanes: [operator::enter(left, stepped.step, target, operator::ramp_scale(size))],
+        lanes: [lane.leave().enter(stepped.step, target, ramp)],
         feedback: chain.feedback,
     }
 }

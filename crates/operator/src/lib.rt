@@ -27,12 +27,64 @@ impl Operator {
         }
     }
 
-    pub fn reset(mut self) -> Self
+    pub fn reset(self) -> Self
         ensures { result ≡ still }
     {
-        self.phase = 0;
-        self.amplitude = 0.0;
-        self
+        Self::new()
+    }
+
+    // At the start of a block, with its step and its way to the target, held at 4.
+    pub fn enter(self, step: u32, target: f32, ramp: f32) -> Lane
+        ensures { result ≡ lane_of self step target ramp }
+    {
+        Lane {
+            phase: self.phase,
+            amplitude: self.amplitude,
+            step,
+            increment: (numbers::f32_min(target, 4.0) - self.amplitude) * ramp,
+        }
+    }
+}
+
+// An operator as it runs through a block.
+#[derive(Clone, Copy, Default)]
+pub struct Lane {
+    pub phase: u32,
+    pub amplitude: f32,
+    pub step: u32,
+    pub increment: f32,
+}
+
+impl Lane {
+    // At the end of a block.
+    #[tactic(auto, unfolding(crate::specs::Sample::operator_of))]
+    pub fn leave(self) -> Operator
+        ensures { result ≡ operator_of self }
+    {
+        Operator {
+            phase: self.phase,
+            amplitude: self.amplitude,
+        }
+    }
+
+    // Its sample at the phase that it moves on to.
+    #[tactic(auto, unfolding(crate::specs::Sample::sampled))]
+    fn sample(self, pairs: &[f32; 1024], pm: f32) -> f32
+        ensures { result ≡ sampled pairs.now self pm }
+    {
+        sine::sine_pm(pairs, numbers::wrapping_add_u32(self.phase, self.step), pm) * self.amplitude
+    }
+
+    // The operator after a sample.
+    #[tactic(auto, unfolding(crate::specs::Sample::moved))]
+    fn advance(self) -> Self
+        ensures { result ≡ moved self }
+    {
+        Self {
+            phase: numbers::wrapping_add_u32(self.phase, self.step),
+            amplitude: self.amplitude + self.increment,
+            ..self
+        }
     }
 }
 
@@ -43,13 +95,25 @@ pub struct Feedback {
     pub previous_1: f32,
 }
 
-// An operator as it runs through a block.
-#[derive(Clone, Copy, Default)]
-pub struct Lane {
-    pub phase: u32,
-    pub amplitude: f32,
-    pub step: u32,
-    pub increment: f32,
+impl Feedback {
+    // The modulation that it gives.
+    #[tactic(auto, unfolding(crate::specs::Sample::fed))]
+    fn feed(self, feedback_scale: f32) -> f32
+        ensures { result ≡ fed self feedback_scale }
+    {
+        (self.previous_0 + self.previous_1) * feedback_scale
+    }
+
+    // After a sample of its origin.
+    #[tactic(auto, unfolding(crate::specs::Sample::pushed))]
+    fn push(self, pm: f32) -> Self
+        ensures { result ≡ pushed self pm }
+    {
+        Self {
+            previous_0: pm,
+            previous_1: self.previous_0,
+        }
+    }
 }
 
 // A chain of operators, first to last, with the feedback.
@@ -74,69 +138,6 @@ pub fn feedback_scale(amount: u8) -> f32
         return 0.0;
     }
     numbers::u32_as_f32(numbers::wrapping_shl_u32(1, amount as u32)) / 512.0
-}
-
-// An operator at the start of a block, with its step and its way to the target, held at 4.
-pub fn enter(operator: Operator, step: u32, target: f32, ramp: f32) -> Lane
-    ensures { result ≡ lane_of operator step target ramp }
-{
-    Lane {
-        phase: operator.phase,
-        amplitude: operator.amplitude,
-        step: step,
-        increment: (numbers::f32_min(target, 4.0) - operator.amplitude) * ramp,
-    }
-}
-
-// And at its end.
-#[tactic(auto, unfolding(crate::specs::Sample::operator_of))]
-pub fn leave(lane: Lane) -> Operator
-    ensures { result ≡ operator_of lane }
-{
-    Operator {
-        phase: lane.phase,
-        amplitude: lane.amplitude,
-    }
-}
-
-// An operator's sample at the phase that it moves on to.
-#[tactic(auto, unfolding(crate::specs::Sample::sampled))]
-fn sample(pairs: &[f32; 1024], lane: Lane, pm: f32) -> f32
-    ensures { result ≡ sampled pairs.now lane pm }
-{
-    sine::sine_pm(pairs, numbers::wrapping_add_u32(lane.phase, lane.step), pm) * lane.amplitude
-}
-
-// The operator after a sample.
-#[tactic(auto, unfolding(crate::specs::Sample::moved))]
-fn advance(lane: Lane) -> Lane
-    ensures { result ≡ moved lane }
-{
-    Lane {
-        phase: numbers::wrapping_add_u32(lane.phase, lane.step),
-        amplitude: lane.amplitude + lane.increment,
-        step: lane.step,
-        increment: lane.increment,
-    }
-}
-
-// The modulation that feedback gives.
-#[tactic(auto, unfolding(crate::specs::Sample::fed))]
-fn feed(feedback: Feedback, feedback_scale: f32) -> f32
-    ensures { result ≡ fed feedback feedback_scale }
-{
-    (feedback.previous_0 + feedback.previous_1) * feedback_scale
-}
-
-// The feedback after a sample of its origin.
-#[tactic(auto, unfolding(crate::specs::Sample::pushed))]
-fn push(feedback: Feedback, pm: f32) -> Feedback
-    ensures { result ≡ pushed feedback pm }
-{
-    Feedback {
-        previous_0: pm,
-        previous_1: feedback.previous_0,
-    }
 }
 
 // Added to what stands there, or set.
@@ -217,11 +218,11 @@ impl Modulation for Own {
     ghost reaches = { λ _ _. Unit {0} };
 
     fn enter(self, _i: usize, feedback: Feedback) -> f32 {
-        feed(feedback, self.feedback_scale)
+        feedback.feed(self.feedback_scale)
     }
 
     fn keep(self, feedback: Feedback, pm: f32) -> Feedback {
-        push(feedback, pm)
+        feedback.push(pm)
     }
 }
 
@@ -242,8 +243,8 @@ fn render<M: Modulation, const N: usize>(
     for (i, o) in out.iter_mut().enumerate() {
         let mut pm = modulation.enter(i, feedback);
         for lane in lanes.iter_mut() {
-            pm = sample(pairs, *lane, pm);
-            *lane = advance(*lane);
+            pm = lane.sample(pairs, pm);
+            *lane = lane.advance();
         }
         feedback = modulation.keep(feedback, pm);
         *o = mix(add, *o, pm);
@@ -319,7 +320,7 @@ fn lines(
     let mut lane = operator;
     for (k, phase) in at.iter().enumerate() {
         let pm = sine::line(pairs, *phase) * lane.amplitude;
-        lane = advance(lane);
+        lane = lane.advance();
         out[i + k] = mix(add, out[i + k], pm);
     }
     lane

@@ -49,12 +49,7 @@ impl Operators {
         let mut lanes = [Lane::default(); N];
         for (k, lane) in lanes.iter_mut().enumerate() {
             let at = first + k;
-            *lane = operator::enter(
-                self.operator[at],
-                lent.steps[at],
-                lent.targets[at],
-                lent.ramp,
-            );
+            *lane = self.operator[at].enter(lent.steps[at], lent.targets[at], lent.ramp);
         }
         Chain {
             lanes,
@@ -68,7 +63,7 @@ impl Operators {
         ensures { self.new ≡ settled self.old first (chain_of chain.entry) }
     {
         for (k, lane) in chain.lanes.iter().enumerate() {
-            self.operator[first + k] = operator::leave(*lane);
+            self.operator[first + k] = lane.leave();
         }
         self.feedback_state = chain.feedback;
     }

@@ -1,9 +1,9 @@
--- `operator::enter` meets its contract.
+-- `operator::Operator::enter` meets its contract.
 -- Assumes nothing.
 use lib.Ieee.{of_bits}
 use Rattle.numbers.specs.F32.{decimal}
 use Rattle.operator.specs.Sample.{lane_of}
-use Rattle.operator.proofs.enter.Goals as goal
+use Rattle.operator.proofs.Operator.enter.Goals as goal
 
 pub returns : goal.returns
 unfolding lane_of decimal of_bits
