@@ -136,6 +136,7 @@ impl Operators {
         ensures { desk lent.now.samples self.new block.new
             ≡ called lent.now.pairs.now (setting_of lent.now) call (desk lent.now.samples self.old block.old) }
     {
+        // Stays: a call's numbers, which come from outside as any bytes. An enum would be made and matched here alone.
         match (call.n, call.input) {
             (1, 0) => self.run_none(lent, call, block),
             (1, 3) => self.run_fed::<1>(lent, call, block),
@@ -158,37 +159,8 @@ impl Operators {
     }
 }
 
-// A plan's block, with room aside for a quarter.
-fn run_with(
-    pairs: &[f32; 1024],
-    state: Operators,
-    plan: Plan,
-    steps: [u32; 6],
-    targets: [f32; 6],
-    amount: u8,
-    aside: &mut [f32],
-    block: &mut [f32],
-) -> Operators
-    requires { Playable plan × (length block.old ≤ 4096) × (length block.old % 4 ≡ 0)
-        × (length block.old / 4 ≤ length aside.old) }
-    ensures { record { operators = result; block = block.new }
-        ≡ ran pairs.now plan steps targets amount state block.old }
-{
-    let samples = block.len() / 4;
-    let lent = Lent {
-        pairs,
-        steps: &steps,
-        targets: &targets,
-        samples,
-        ramp: operator::ramp_scale(samples as u32),
-        feedback_scale: operator::feedback_scale(amount),
-    };
-    let mut operators = state;
-    operators.run_calls(&lent, plan, aside, block);
-    operators
-}
-
-// A plan's block. For speed a short block gets less room aside: clearing more than it needs would cost it time.
+// A plan's block. For speed a short block gets less room aside for a quarter: clearing more than it needs would cost it
+// time.
 pub fn run_plan(
     pairs: &[f32; 1024],
     plan: Plan,
@@ -202,10 +174,20 @@ pub fn run_plan(
     ensures { record { operators = result; block = block.new }
         ≡ ran pairs.now plan steps targets amount state block.old }
 {
-    if block.len() <= 256 {
-        let mut room = [0.0f32; 64];
-        return run_with(pairs, state, plan, steps, targets, amount, &mut room, block);
+    let samples = block.len() / 4;
+    let lent = Lent {
+        pairs,
+        steps: &steps,
+        targets: &targets,
+        samples,
+        ramp: operator::ramp_scale(samples as u32),
+        feedback_scale: operator::feedback_scale(amount),
+    };
+    let mut operators = state;
+    if samples <= 64 {
+        operators.run_calls(&lent, plan, &mut [0.0; 64], block);
+        return operators;
     }
-    let mut room = [0.0f32; 1024];
-    run_with(pairs, state, plan, steps, targets, amount, &mut room, block)
+    operators.run_calls(&lent, plan, &mut [0.0; 1024], block);
+    operators
 }
