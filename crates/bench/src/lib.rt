@@ -285,11 +285,8 @@ struct Given {
     mix: u8,
 }
 
-fn mix_report(before: u8, complete: bool, slot: u8, last: u8) -> u8 {
-    if complete {
-        return before ^ slot ^ last;
-    }
-    before
+fn mix_report(before: u8, complete: Option<u8>, last: u8) -> u8 {
+    complete.map_or(before, |slot| before ^ slot ^ last)
 }
 
 fn give(first: Receiver, piece: &[u8], patch: &mut [u8; 128], before: u8) -> Given {
@@ -300,10 +297,13 @@ fn give(first: Receiver, piece: &[u8], patch: &mut [u8; 128], before: u8) -> Giv
         if rest.is_empty() {
             break;
         }
-        let t = bank_pieces::take(receiver, rest, patch);
-        receiver = t.receiver;
-        rest = &rest[t.taken.min(rest.len())..];
-        mix = mix_report(mix, t.complete, t.slot, patch[127]);
+        let (next, taken, complete) = match bank_pieces::take(receiver, rest, patch) {
+            Ok(t) => (t.receiver, t.taken, t.complete),
+            Err(refused) => (refused.state, 0, None),
+        };
+        receiver = next;
+        rest = &rest[taken.min(rest.len())..];
+        mix = mix_report(mix, complete, patch[127]);
     }
     Given { receiver, mix }
 }

@@ -4,7 +4,8 @@
 // docs/PROGRAMS.md has the lines.
 #![tactic(auto)]
 
-use bank_pieces::{Receiver, Taken};
+use bank_pieces::Receiver;
+use std::array;
 use std::io::Stdin;
 use streams::{Streams, Window};
 
@@ -18,30 +19,31 @@ struct Run {
 
 // The name of a packed patch, its letters as they stand.
 fn name(p: &[u8; 128]) -> [u8; 10] {
-    [
-        p[118], p[119], p[120], p[121], p[122], p[123], p[124], p[125], p[126], p[127],
-    ]
+    array::from_fn(|k| p[118 + k])
 }
 
-// The line of a patch that is complete. The answer says whether to go on.
-fn print_if_complete(to: Streams, t: Taken, patch: &[u8; 128]) -> bool {
-    if !t.complete {
+// The line of the patch that is complete, if one is. The answer says whether to go on.
+fn print_if_complete(to: Streams, complete: Option<u8>, patch: &[u8; 128]) -> bool {
+    let Some(slot) = complete else {
         return true;
-    }
-    let columns = streams::patch_columns(t.slot as usize, name(patch));
+    };
+    let columns = streams::patch_columns(slot as usize, name(patch));
     streams::print_line(to, b"", &columns, b"provisional")
 }
 
 // What waits, up to the end of the patch at hand. The reader has not ended, so it takes at least a byte.
 fn take(to: Streams, buffer: &[u8], patch: &mut [u8; 128], run: Run) -> Run {
-    let mut window = run.window;
-    let t = bank_pieces::take(run.receiver, streams::waiting(buffer, window), patch);
-    window.at = window.at.wrapping_add(t.taken);
-    let receiver = t.receiver;
-    Run {
-        window,
-        receiver,
-        going: print_if_complete(to, t, patch),
+    match bank_pieces::take(run.receiver, streams::waiting(buffer, run.window), patch) {
+        Ok(t) => {
+            let mut window = run.window;
+            window.at = window.at.wrapping_add(t.taken);
+            Run {
+                window,
+                receiver: t.receiver,
+                going: print_if_complete(to, t.complete, patch),
+            }
+        }
+        Err(_) => run,
     }
 }
 
