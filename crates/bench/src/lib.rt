@@ -210,8 +210,7 @@ fn packed_in_turn(patches: [Patch; 8], times: usize) -> [[u8; 128]; 8] {
     let mut out = [z, z, z, z, z, z, z, z];
     for i in 0..times {
         let k = i % 8;
-        let done = patch_packer::pack(patches[k]);
-        out[k] = done.bytes;
+        out[k] = patch_packer::pack(patches[k]).unwrap_or([0; 128]);
     }
     out
 }
@@ -267,9 +266,16 @@ pub extern "C" fn bench_check(bytes: &[u8], times: usize) -> u8 {
 // A patch unpacked and packed again; the number.
 #[unsafe(no_mangle)]
 pub extern "C" fn bench_again(bytes: &[u8], out: &mut [u8; 128]) -> u8 {
-    let done = patch_packer::pack(read(bytes));
-    *out = done.bytes;
-    done.number
+    match patch_packer::pack(read(bytes)) {
+        Ok(packed) => {
+            *out = packed;
+            0
+        }
+        Err(refusal) => {
+            *out = [0; 128];
+            refusal.number()
+        }
+    }
 }
 
 // A bank's number.

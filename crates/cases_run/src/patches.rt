@@ -59,7 +59,7 @@ fn packed(to: Streams, going: bool, text: &[u8], transpose: u8, active_operators
     let mut p = zeros();
     p.transpose = transpose;
     p.active_operators = active_operators;
-    line(to, going, text, patch_packer::pack(p).number as u64)
+    line(to, going, text, told(patch_packer::pack(p).err()))
 }
 
 fn packing(to: Streams, going: bool) -> bool {

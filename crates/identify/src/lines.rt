@@ -73,13 +73,13 @@ pub fn print_dump(to: Streams, name: &[u8], dump: &[u8], place: u64) -> bool {
 
 // The line of a single-voice dump that begins at a place.
 pub fn print_single(to: Streams, name: &[u8], dump: &[u8], place: u64) -> bool {
-    let read = single::read(Patch::new(), dump);
-    if read.number != 0 {
-        tell_refusal_at(to, name, read.number, place);
-        return true;
+    match single::read(Patch::new(), dump) {
+        Ok(read) => print_patch(to, name, 0, read.patch),
+        Err(refused) => {
+            tell_refusal_at(to, name, refused.refusal.number(), place);
+            true
+        }
     }
-    let patch = read.patch;
-    print_patch(to, name, 0, patch)
 }
 
 // The lines of one patch or one dump.
