@@ -20,7 +20,6 @@ came_append h [] ys = refl
 came_append h (x ∷ xs) ys = came_append (came h x) xs ys
 
 pub passed_append : (r : Receiver) (xs ys : List ℕ) → passed_all r (xs ++ ys) ≡ passed_all (passed_all r xs) ys
-unfolding passed_all
 passed_append r [] ys = refl
 passed_append r (x ∷ xs) ys = passed_append (passed r x) xs ys
 
@@ -47,7 +46,7 @@ count_more r b l = omega arith
 
 pub came_first : (h : Held) (bs : List ℕ) → h.receiver.count + length bs ≤ 6
     → came_all h bs ≡ passing h (passed_all h.receiver bs)
-unfolding came_all passed_all
+unfolding came_all
 came_first h [] l = refl
 came_first h (b ∷ bs) l =
     ap (λ (k : Held). came_all k bs) (came_before h b (omega arith))
@@ -55,7 +54,7 @@ came_first h (b ∷ bs) l =
 
 pub came_rest : (h : Held) (bs : List ℕ) → 4102 ≤ h.receiver.count
     → came_all h bs ≡ passing h (passed_all h.receiver bs)
-unfolding came_all passed_all
+unfolding came_all
 came_rest h [] l = refl
 came_rest h (b ∷ bs) l =
     ap (λ (k : Held). came_all k bs) (came_behind h b l)

@@ -8,6 +8,7 @@ use borrow.Author.Tests.{leb-true, leb-false, ne_eqb, le-leb, lt-leb, lt-ltb, le
 use lib.Dec.{leb, ltb}
 use lib.ListN.{length, take, drop, length-drop, take-append-drop, drop_of_length-le}
 use lib.Seq.{paste, take-add, take-take, take-length, length-take-le}
+use Rattle.std.specs.Prelude.{Option, None, Some}
 use Rattle.bank_pieces.specs.declared.Receiver.{Receiver}
 use Rattle.bank_pieces.specs.Pieces.{Held, Took, passed, passed_all, place_in, slot_at, came_all, summed_with}
 use Rattle.bank_pieces.specs.Pieces.{missing, completes, takes, took, frame_with, is_right}
@@ -27,9 +28,9 @@ whole_is d s w =
     sym (ap (λ (t : List ℕ). take 128 s ++ t) (drop_of_length-le d {i = 128} (omega arith)) ∙ append-nil (take 128 s))
 
 -- an accepted answer, by the reader and the buffer behind the call
-abbrev pub answered : Held → ℕ → Bool → ℕ → Took
-answered h n complete slot = record {
-  taken = record { number = 0; receiver = h.receiver; taken = n; complete = complete; slot = slot };
+abbrev pub answered : Held → ℕ → Option ℕ → Took
+answered h n complete = record {
+  taken = record { receiver = h.receiver; taken = n; complete = complete };
   patch = h.patch;
 }
 
@@ -39,13 +40,13 @@ module _ (r : Receiver) (piece patch : List ℕ) where
 
   took_is : (b : Bool) (n : ℕ) (h : Held) → completes r.count (length piece) ≡ b
       → cond b (missing r.count) (length piece) ≡ n → came_all start (take n piece) ≡ h
-      → answered h n b (cond b (slot_at r.count) 0) ≡ took r piece patch
+      → answered h n (cond b (Some (slot_at r.count)) None) ≡ took r piece patch
   unfolding took takes
   took_is b n h e f g = rw (e, f, g) refl
 
   -- all of a piece that completes no patch
   took_all : (h : Held) → completes r.count (length piece) ≡ false → came_all start piece ≡ h
-      → answered h (length piece) false 0 ≡ took r piece patch
+      → answered h (length piece) None ≡ took r piece patch
   took_all h e g = took_is false (length piece) h e refl (ap (came_all start) (take-length piece) ∙ g)
 
   -- too few bytes for the patch at hand
@@ -65,7 +66,7 @@ module _ (r : Receiver) (piece patch : List ℕ) where
     pub took_some : (q : Receiver) (p : List ℕ) → length piece < 128 - place_in r.count
         → q ≡ record { count = r.count + length piece; frame = r.frame; sum = r.sum; ended = r.ended }
         → p ≡ paste patch (place_in r.count) piece (length piece)
-        → answered (record { receiver = q; patch = p }) (length piece) false 0 ≡ took r piece patch
+        → answered (record { receiver = q; patch = p }) (length piece) None ≡ took r piece patch
     took_some q p l e f =
         rw (e, f)
         (took_all (held r (r.count + length piece) r.sum (paste patch (place_in r.count) piece (length piece)))
@@ -76,7 +77,7 @@ module _ (r : Receiver) (piece patch : List ℕ) where
     -- enough of them
     pub took_whole : (room sum : ℕ) (p : List ℕ) → room ≡ 128 - place_in r.count → room ≤ length piece
         → p ≡ paste patch (place_in r.count) piece room → sum ≡ summed_with r.sum p
-        → answered (held r (r.count + room) sum p) room true (slot_at r.count) ≡ took r piece patch
+        → answered (held r (r.count + room) sum p) room (Some (slot_at r.count)) ≡ took r piece patch
     took_whole zero sum p s l e f = let w : ⊥ = omega arith in absurd w
     took_whole (suc j) sum p s l e f =
         rw (f, e)
@@ -88,7 +89,7 @@ module _ (r : Receiver) (piece patch : List ℕ) where
 
   -- behind the data all is taken
   pub took_rest : 4102 ≤ r.count → (q : Receiver) → q ≡ passed_all r piece
-      → answered (record { receiver = q; patch = patch }) (length piece) false 0 ≡ took r piece patch
+      → answered (record { receiver = q; patch = patch }) (length piece) None ≡ took r piece patch
   unfolding completes
   took_rest l q e =
       rw e
@@ -97,7 +98,7 @@ module _ (r : Receiver) (piece patch : List ℕ) where
 
   -- bytes of the frame and no others
   pub took_frame : r.count + length piece ≤ 6 → (q : Receiver) → q ≡ passed_all r piece
-      → answered (record { receiver = q; patch = patch }) (length piece) false 0 ≡ took r piece patch
+      → answered (record { receiver = q; patch = patch }) (length piece) None ≡ took r piece patch
   unfolding missing
   took_frame l q e =
       rw e
@@ -108,11 +109,9 @@ module _ (r : Receiver) (piece patch : List ℕ) where
 abbrev pub onward : ℕ → Took → Took
 onward n t = record {
   taken = record {
-    number = t.taken.number;
     receiver = t.taken.receiver;
     taken = n + t.taken.taken;
     complete = t.taken.complete;
-    slot = t.taken.slot;
   };
   patch = t.patch;
 }
@@ -166,7 +165,7 @@ module _ (r q : Receiver) (piece patch : List ℕ) (n : ℕ) (six : r.count + n 
           → onward n (took q (drop n piece) patch) ≡ took r piece patch
       at b f =
           ap (onward n) (sym (took_is q (drop n piece) patch b (rest b) (last b) f refl refl))
-          ∙ ap (λ (k : ℕ). answered (last b) (n + rest b) b (cond b k 0)) (omega (arith, six, also))
+          ∙ ap (λ (k : ℕ). answered (last b) (n + rest b) (cond b (Some k) None)) (omega (arith, six, also))
           ∙ took_is r piece patch b (n + rest b) (last b) (complete_on ∙ f) (taken_on b)
           (ap (came_all begin) (take-add n (rest b) piece)
           ∙ came_append begin (take n piece) (take (rest b) (drop n piece))
@@ -186,7 +185,7 @@ taken_least r piece patch = at (ltb r.count 4102) (leb (missing r.count) (length
 -- HOW FAR BYTES THAT ARE NO DATA COUNT
 pub passed_count : (r : Receiver) (bs : List ℕ) → r.count ≤ 18446744073709551615
     → (passed_all r bs).count ≡ min (r.count + length bs) 18446744073709551615
-unfolding passed_all passed
+unfolding passed
 passed_count r [] l = omega arith
 passed_count r (b ∷ bs) l = let e = passed_count (passed r b) bs (omega arith) in omega arith
 
@@ -197,7 +196,7 @@ recounted r n = record { count = n; frame = r.frame; sum = r.sum; ended = r.ende
 -- what is too much is only counted
 beyond : (r : Receiver) (bs : List ℕ) → 4104 ≤ r.count → r.count ≤ 18446744073709551615
     → passed_all r bs ≡ recounted r (min (r.count + length bs) 18446744073709551615)
-unfolding passed_all passed frame_with is_right
+unfolding passed frame_with is_right
 beyond r [] l m = ap (recounted r) (omega arith)
 beyond r (b ∷ bs) l m =
     rw (
@@ -210,7 +209,6 @@ beyond r (b ∷ bs) l m =
     ∙ ap (recounted r) (omega arith))
 
 empty : (q : Receiver) → passed_all q [] ≡ q
-unfolding passed_all
 empty q = refl
 
 pub passed_rest : (r : Receiver) (piece : List ℕ) (n : ℕ) (q : Receiver) (k : ℕ) → 4102 ≤ r.count

@@ -2,7 +2,8 @@
 -- place, which is how many came before it: six bytes of the frame, 4,096 of data, the checksum, the last byte, and what
 -- is too much. Definitions only, all to be believed.
 use Rattle.std.specs.Prelude.{Bool, true, false, cond, ◌&&◌, ◌||◌, not, List, [], ◌∷◌, ℕ, ◌+◌, ◌-◌, ◌/◌, ◌%◌}
-use Rattle.std.specs.Prelude.{min, length, get_or, take, set, eqb, leb, ltb, Result, Ok, Err}
+use Rattle.std.specs.Prelude.{min, length, get_or, take, set, fold, eqb, leb, ltb, Result, Ok, Err}
+use Rattle.std.specs.Prelude.{Option, None, Some}
 use Rattle.std.specs.Result.{result_map_both}
 use Rattle.refusals.specs.declared.Refusal.{Refusal}
 use Rattle.refusals.specs.declared.Refusal.TheVariants.{ForeignState, WrongLength, FrameByte, HighByte, Checksum}
@@ -57,9 +58,8 @@ passed r b = record {
   ended = r.ended;
 }
 
-unfoldable pub passed_all : Receiver → List ℕ → Receiver
-passed_all r [] = r
-passed_all r (b ∷ bs) = passed_all (passed r b) bs
+abbrev pub passed_all : Receiver → List ℕ → Receiver
+passed_all r bytes = fold passed r bytes
 
 -- the reader and the lent buffer, in which the bytes of the patch at hand stand
 pub record Held : Type 0 where
@@ -109,30 +109,36 @@ completes count size = ltb count 4102 && leb (missing count) size
 unfoldable pub takes : ℕ → ℕ → ℕ
 takes count size = cond (completes count size) (missing count) size
 
--- what a piece gives, and the lent buffer afterwards
+-- what an accepted piece gives, and the lent buffer afterwards
 pub record Took : Type 0 where
   pub taken : Taken
   pub patch : List ℕ
 
--- the answer where it is accepted: the bytes that are taken came, one after the other
+-- the bytes that are taken came, one after the other
 unfoldable pub took : Receiver → List ℕ → List ℕ → Took
 took r piece patch = record {
   taken = record {
-    number = 0;
     receiver =
         (came_all (record { receiver = r; patch = patch }) (take (takes r.count (length piece)) piece)).receiver;
     taken = takes r.count (length piece);
-    complete = completes r.count (length piece);
-    slot = cond (completes r.count (length piece)) (slot_at r.count) 0;
+    complete = cond (completes r.count (length piece)) (Some (slot_at r.count)) None;
   };
   patch = (came_all (record { receiver = r; patch = patch }) (take (takes r.count (length piece)) piece)).patch;
 }
 
+-- what a call answers, and the lent buffer afterwards
+pub record Answered : Type 0 where
+  pub answer : Result Taken (Refused Receiver)
+  pub patch : List ℕ
+
+-- of an accepted piece
+abbrev pub accepted : Took → Answered
+accepted t = record { answer = Ok t.taken; patch = t.patch }
+
 -- A PIECE: 9 for a reader that has ended or is not possible, and nothing changes
-unfoldable pub take_of : Receiver → List ℕ → List ℕ → Took
+unfoldable pub take_of : Receiver → List ℕ → List ℕ → Answered
 take_of r piece patch =
-    cond (possible r) (took r piece patch)
-    (record { taken = record { number = 9; receiver = r; taken = 0; complete = false; slot = 0 }; patch = patch })
+    cond (possible r) (accepted (took r piece patch)) (record { answer = refused ForeignState r; patch = patch })
 
 -- why the dump that came is refused, in the order of whole dumps
 unfoldable pub closing : Receiver → Result (Unit {0}) Refusal

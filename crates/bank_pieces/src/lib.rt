@@ -1,7 +1,7 @@
 // A bank that comes in pieces: the reader takes each piece, reports complete patches as their bytes come, and says at
 // the end whether the dump was sound. Added by us: no Rust file. Each entry is what specs/Pieces says, for every state,
-// every piece and every buffer. Numbers given back: 9 a reader that has ended, or that no pieces leave so; at the end
-// 10 wrong length, 11 wrong frame byte, 12 data byte above 127, 13 wrong checksum.
+// every piece and every buffer. Refused with 9 is a reader that has ended, or that no pieces leave so; at the end a dump
+// is refused as any dump is.
 #![tactic(auto)]
 
 ghost use Rattle.std.specs.Prelude.{◌≡◌, true, false, ◌+◌, ◌-◌, ◌≤◌, ◌<◌, min, length};
@@ -21,15 +21,13 @@ pub struct Receiver {
     pub ended: bool,
 }
 
-// What a piece gives: its number, the reader behind it, how many bytes were taken, and whether they end a patch, which
-// then stands in the lent buffer, and in which slot.
+// What a piece gives: the reader behind it, how many bytes were taken, and the slot of the patch that they end, if they
+// end one, which then stands in the lent buffer.
 #[derive(Clone, Copy)]
 pub struct Taken {
-    pub number: u8,
     pub receiver: Receiver,
     pub taken: usize,
-    pub complete: bool,
-    pub slot: u8,
+    pub complete: Option<u8>,
 }
 
 // What the end of a sound dump gives: the reader behind it, and the dump's channel.
@@ -40,6 +38,7 @@ pub struct Ended {
 }
 
 // A reader before the first byte.
+#[tactic(auto, unfolding(crate::specs::Pieces::fresh))]
 pub fn open() -> Receiver
     ensures { result ≡ fresh }
 {
@@ -52,45 +51,30 @@ pub fn open() -> Receiver
 }
 
 // Whether some pieces leave a reader so, and no end came. Once a patch was complete, all numbers are possible.
+#[tactic(auto, unfolding(crate::specs::Pieces::possible))]
 fn is_possible(r: Receiver) -> bool
     ensures { result ≡ possible r }
 {
-    if r.ended {
-        return false;
-    }
-    if r.count >= 134 {
-        return true;
-    }
-    (r.sum == 0) & ((r.count >= 3) | (r.frame == 0) | ((r.frame == 255) & (r.count > 0)))
-}
-
-// A count and some bytes more.
-fn counted(count: usize, more: usize) -> usize
-    ensures { result ≡ min (count + more) 18446744073709551615 }
-{
-    let room = usize::MAX - count;
-    if more < room {
-        count + more
-    } else {
-        usize::MAX
-    }
+    !r.ended
+        && (r.count >= 134
+            || r.sum == 0 && (r.count >= 3 || r.frame == 0 || r.frame == 255 && r.count > 0))
 }
 
 // Whether a byte is right at its place, which outside the frame every byte is.
+#[tactic(auto, unfolding(crate::specs::Pieces::is_right))]
 fn is_right(place: usize, b: u8) -> bool
     ensures { result ≡ is_right place b }
 {
     let form = bank::bank_form();
-    if place < 6 {
-        return form.header[place].contains(b);
+    match place {
+        0..=5 => form.header[place].contains(b),
+        4103 => form.last.contains(b),
+        _ => true,
     }
-    if place == 4103 {
-        return form.last.contains(b);
-    }
-    true
 }
 
 // What a byte that is no data leaves of the frame.
+#[tactic(auto, unfolding(crate::specs::Pieces::frame_with))]
 fn frame_with(place: usize, frame: u8, b: u8) -> u8
     ensures { result ≡ frame_with place frame b }
 {
@@ -104,22 +88,21 @@ fn frame_with(place: usize, frame: u8, b: u8) -> u8
 }
 
 // The sum with a patch more.
+#[tactic(auto, unfolding(crate::specs::Pieces::summed_with))]
 fn summed_with(sum: u8, patch: &[u8]) -> u8
     ensures { result ≡ summed_with sum patch.now }
 {
     let t = dump::tally(patch);
     let low = (sum % 128 + t.sum) % 128;
     let came_high = sum > 127;
-    if came_high {
-        return 128 + low;
-    }
-    if t.largest > 127 {
+    if came_high || t.largest > 127 {
         return 128 + low;
     }
     low
 }
 
 // What the checksum leaves of the sum: 0 if it completes it.
+#[tactic(auto, unfolding(crate::specs::Pieces::checked_with))]
 fn checked_with(sum: u8, c: u8) -> u8
     ensures { result ≡ checked_with sum c }
 {
@@ -131,24 +114,20 @@ fn checked_with(sum: u8, c: u8) -> u8
 }
 
 // A byte that is no data.
+#[tactic(auto, unfolding(crate::specs::Pieces::passed))]
 fn pass(r: Receiver, b: u8) -> Receiver
     ensures { result ≡ passed r b }
 {
-    let frame = frame_with(r.count, r.frame, b);
-    let count = counted(r.count, 1);
-    if r.count == 4102 {
-        return Receiver {
-            count,
-            frame,
-            sum: checked_with(r.sum, b),
-            ended: r.ended,
-        };
-    }
+    let sum = if r.count == 4102 {
+        checked_with(r.sum, b)
+    } else {
+        r.sum
+    };
     Receiver {
-        count,
-        frame,
-        sum: r.sum,
-        ended: r.ended,
+        count: r.count.saturating_add(1),
+        frame: frame_with(r.count, r.frame, b),
+        sum,
+        ..r
     }
 }
 
@@ -156,73 +135,11 @@ fn pass(r: Receiver, b: u8) -> Receiver
 fn pass_all(receiver: Receiver, bytes: &[u8]) -> Receiver
     ensures { result ≡ passed_all receiver bytes.now }
 {
-    let mut r = receiver;
-    let mut i = 0usize;
-    while i < bytes.len() {
-        r = pass(r, bytes[i]);
-        i += 1;
-    }
-    r
+    bytes.iter().fold(receiver, |r, b| pass(r, *b))
 }
 
-// The reader with so many bytes more and another sum.
-fn moved(r: Receiver, more: usize, sum: u8) -> Receiver
-    requires { r.count + more < 18446744073709551615 }
-    ensures { result ≡ record { count = r.count + more; frame = r.frame; sum = sum; ended = r.ended } }
-{
-    Receiver {
-        count: r.count + more,
-        frame: r.frame,
-        sum,
-        ended: r.ended,
-    }
-}
-
-// A piece that was taken whole and completes no patch.
-fn whole(r: Receiver, size: usize) -> Taken
-    ensures { result ≡ record { number = 0; receiver = r; taken = size; complete = false; slot = 0 } }
-{
-    Taken {
-        number: 0,
-        receiver: r,
-        taken: size,
-        complete: false,
-        slot: 0,
-    }
-}
-
-// What a call gives whose last bytes complete a patch.
-fn completed(r: Receiver, more: usize, sum: u8) -> Taken
-    requires { (6 ≤ r.count) × (r.count < 4102) × (more ≤ 128) }
-    ensures { result ≡ record {
-      number = 0;
-      receiver = record { count = r.count + more; frame = r.frame; sum = sum; ended = r.ended };
-      taken = more;
-      complete = true;
-      slot = slot_at r.count;
-    } }
-{
-    Taken {
-        number: 0,
-        receiver: moved(r, more, sum),
-        taken: more,
-        complete: true,
-        slot: ((r.count - 6) / 128) as u8,
-    }
-}
-
-// A whole patch. Its bytes are summed in the piece itself: the buffer, just written, would make the processor wait.
-fn take_patch(r: Receiver, piece: &[u8], patch: &mut [u8; 128]) -> Taken
-    requires { (6 ≤ r.count) × (r.count < 4102) × (place_in r.count ≡ 0) × (128 ≤ length piece.now) }
-    ensures { record { taken = result; patch = patch.new }
-        ≡ took r piece.now patch.old }
-{
-    let all = 128usize;
-    lent_bytes::put(patch, 0, &piece[..all]);
-    completed(r, all, summed_with(r.sum, &piece[..all]))
-}
-
-// The bytes of a piece that goes on with the data, up to the end of the patch at hand.
+// The bytes of a piece that goes on with the data, up to the end of the patch at hand. A patch that comes whole is
+// summed in the piece itself: the buffer, just written, would make the processor wait.
 fn take_data(r: Receiver, piece: &[u8], patch: &mut [u8; 128]) -> Taken
     requires { (6 ≤ r.count) × (r.count < 4102) }
     ensures { record { taken = result; patch = patch.new }
@@ -232,26 +149,30 @@ fn take_data(r: Receiver, piece: &[u8], patch: &mut [u8; 128]) -> Taken
     let room = 128 - filled;
     if piece.len() < room {
         lent_bytes::put(patch, filled, piece);
-        return whole(moved(r, piece.len(), r.sum), piece.len());
-    }
-    if filled == 0 {
-        return take_patch(r, piece, patch);
+        return Taken {
+            receiver: Receiver {
+                count: r.count + piece.len(),
+                ..r
+            },
+            taken: piece.len(),
+            complete: None,
+        };
     }
     lent_bytes::put(patch, filled, &piece[..room]);
-    completed(r, room, summed_with(r.sum, patch))
-}
-
-fn least(a: usize, b: usize) -> usize
-    ensures { result ≡ min a b }
-{
-    if a < b { a } else { b }
-}
-
-// How many bytes are missing up to a place.
-fn up_to(place: usize, count: usize) -> usize
-    ensures { result ≡ place - count }
-{
-    if count < place { place - count } else { 0 }
+    let sum = if filled == 0 {
+        summed_with(r.sum, &piece[..room])
+    } else {
+        summed_with(r.sum, patch)
+    };
+    Taken {
+        receiver: Receiver {
+            count: r.count + room,
+            sum,
+            ..r
+        },
+        taken: room,
+        complete: Some(((r.count - 6) / 128) as u8),
+    }
 }
 
 // The bytes behind the data: the checksum, the last byte, and what is too much, which is only counted.
@@ -259,13 +180,11 @@ fn pass_rest(r: Receiver, piece: &[u8]) -> Receiver
     requires { 4102 ≤ r.count }
     ensures { result ≡ passed_all r piece.now }
 {
-    let n = least(up_to(4104, r.count), piece.len());
+    let n = 4104usize.saturating_sub(r.count).min(piece.len());
     let q = pass_all(r, &piece[..n]);
     Receiver {
-        count: counted(q.count, piece.len() - n),
-        frame: q.frame,
-        sum: q.sum,
-        ended: q.ended,
+        count: q.count.saturating_add(piece.len() - n),
+        ..q
     }
 }
 
@@ -275,47 +194,53 @@ fn take_first(r: Receiver, piece: &[u8], patch: &mut [u8; 128]) -> Taken
     ensures { record { taken = result; patch = patch.new }
         ≡ took r piece.now patch.old }
 {
-    let n = least(6 - r.count, piece.len());
+    let n = (6 - r.count).min(piece.len());
     let q = pass_all(r, &piece[..n]);
     if n == piece.len() {
-        return whole(q, n);
+        return Taken {
+            receiver: q,
+            taken: n,
+            complete: None,
+        };
     }
     let t = take_data(q, &piece[n..], patch);
-    let s = t.receiver;
     Taken {
-        number: t.number,
-        receiver: s,
         taken: n + t.taken,
-        complete: t.complete,
-        slot: t.slot,
+        ..t
     }
 }
 
 // Takes a piece up to the end of the patch at hand, whose bytes stand in the lent buffer, which is handed in again
 // with the next piece. What was not taken is given again.
-pub fn take(receiver: Receiver, piece: &[u8], patch: &mut [u8; 128]) -> Taken
-    ensures { record { taken = result; patch = patch.new }
+pub fn take(
+    receiver: Receiver,
+    piece: &[u8],
+    patch: &mut [u8; 128],
+) -> Result<Taken, Refused<Receiver>>
+    ensures { record { answer = result; patch = patch.new }
         ≡ take_of receiver piece.now patch.old }
 {
     if !is_possible(receiver) {
-        return Taken {
-            number: 9,
-            receiver,
-            taken: 0,
-            complete: false,
-            slot: 0,
-        };
+        return Err(Refused {
+            refusal: Refusal::ForeignState,
+            state: receiver,
+        });
     }
     if receiver.count < 6 {
-        return take_first(receiver, piece, patch);
+        return Ok(take_first(receiver, piece, patch));
     }
     if receiver.count < 4102 {
-        return take_data(receiver, piece, patch);
+        return Ok(take_data(receiver, piece, patch));
     }
-    whole(pass_rest(receiver, piece), piece.len())
+    Ok(Taken {
+        receiver: pass_rest(receiver, piece),
+        taken: piece.len(),
+        complete: None,
+    })
 }
 
 // Why the dump that came is refused, if it is.
+#[tactic(auto, unfolding(crate::specs::Pieces::closing))]
 fn closing(r: Receiver) -> Result<(), Refusal>
     ensures { result ≡ closing r }
 {
@@ -336,6 +261,7 @@ fn closing(r: Receiver) -> Result<(), Refusal>
 }
 
 // Ends the reader, whether the dump was sound or not.
+#[tactic(auto, unfolding(crate::specs::Pieces::end_of))]
 pub fn end(receiver: Receiver) -> Result<Ended, Refused<Receiver>>
     ensures { result ≡ end_of receiver }
 {

@@ -3,11 +3,11 @@
 // that was computed, so that nothing can be left out.
 #![tactic(auto)]
 
-ghost use Rattle.std.specs.Prelude.{◌≡◌, ◌≤◌, ◌<◌, min, length};
+ghost use Rattle.std.specs.Prelude.{◌≡◌, ◌≤◌, ◌<◌, length};
 
 use algorithms::Call;
 use bank_pieces::Receiver;
-use operator::{Feedback, Single};
+use operator::{Chain, Feedback};
 use patch::{Envelope, KeyboardScaling, ModulationParameters, Operator, Patch};
 use voice::Voice;
 use voice_render::VoiceParameters;
@@ -24,36 +24,26 @@ pub extern "C" fn bench_sine_pm(
     out: &mut [f32],
 ) {
     let pairs = sine::sine_pairs();
-    let mut k = 0u32;
-    while k < blocks {
-        sine_block(
-            &pairs,
-            numbers::wrapping_add_u32(phase, k),
-            step,
-            pm,
-            pm_step,
-            out,
-        );
-        k += 1;
+    for k in 0..blocks {
+        let at = numbers::wrapping_add_u32(phase, k);
+        sine_block(&pairs, at, step, pm, pm_step, out);
     }
 }
 
 fn sine_block(lut: &[f32; 1024], phase: u32, step: u32, pm: f32, pm_step: f32, out: &mut [f32]) {
     let mut at = phase;
     let mut by = pm;
-    let mut i = 0;
-    while i < out.len() {
+    for sample in out.iter_mut() {
         at = numbers::wrapping_add_u32(at, step);
-        out[i] = sine::sine_pm(lut, at, by);
-        by = by + pm_step;
-        i += 1;
+        *sample = sine::sine_pm(lut, at, by);
+        by += pm_step;
     }
 }
 
 // One operator with its feedback at rest.
-fn silent() -> Single {
-    Single {
-        first: operator::enter(operator::Operator::new(), 0, 0.0, 0.0),
+fn silent() -> Chain<1> {
+    Chain {
+        lanes: [operator::Operator::new().enter(0, 0.0, 0.0)],
         feedback: Feedback {
             previous_0: 0.0,
             previous_1: 0.0,
@@ -62,18 +52,13 @@ fn silent() -> Single {
 }
 
 // An operator as the last block left it, at the start of the next one of `size` samples.
-fn entered(s: Single, size: u32, frequency: f32, target: f32) -> Single {
+fn entered(chain: Chain<1>, size: u32, frequency: f32, target: f32) -> Chain<1> {
     let stepped = dx_units::frequency_step(frequency);
-    let l = s.first;
-    let f = s.feedback;
-    Single {
-        first: operator::enter(
-            operator::leave(l),
-            stepped.step,
-            target,
-            operator::ramp_scale(size),
-        ),
-        feedback: f,
+    let [lane] = chain.lanes;
+    let ramp = operator::ramp_scale(size);
+    Chain {
+        lanes: [lane.leave().enter(stepped.step, target, ramp)],
+        feedback: chain.feedback,
     }
 }
 
@@ -89,13 +74,12 @@ pub extern "C" fn bench_render_none(
     out: &mut [f32],
 ) -> u32 {
     let pairs = sine::sine_pairs();
-    let mut s = silent();
-    let mut k = 0u32;
-    while k < blocks {
-        s = operator::render_none(&pairs, entered(s, size, frequency, target), add != 0, out);
-        k += 1;
+    let mut chain = silent();
+    for _ in 0..blocks {
+        let from = entered(chain, size, frequency, target);
+        chain = operator::render_none(&pairs, from, add != 0, out);
     }
-    s.first.phase
+    chain.lanes[0].phase
 }
 
 #[unsafe(no_mangle)]
@@ -126,14 +110,12 @@ fn external_blocks(
     requires { length out.old ≤ length modulation.now }
 {
     let pairs = sine::sine_pairs();
-    let mut s = silent();
-    let mut k = 0u32;
-    while k < blocks {
-        let from = entered(s, size, frequency, target);
-        s = operator::render_external(&pairs, from, add != 0, modulation, out);
-        k += 1;
+    let mut chain = silent();
+    for _ in 0..blocks {
+        let from = entered(chain, size, frequency, target);
+        chain = operator::render_external(&pairs, from, add != 0, modulation, out);
     }
-    s.first.phase
+    chain.lanes[0].phase
 }
 
 #[unsafe(no_mangle)]
@@ -147,26 +129,21 @@ pub extern "C" fn bench_render_feedback(
     out: &mut [f32],
 ) -> u32 {
     let pairs = sine::sine_pairs();
-    let mut k = 0u32;
-    let mut s = silent();
-    while k < blocks {
-        let from = entered(s, size, frequency, target);
-        s = operator::render_feedback(
-            &pairs,
-            from,
-            operator::feedback_scale(amount),
-            add != 0,
-            out,
-        );
-        k += 1;
+    let mut chain = silent();
+    for _ in 0..blocks {
+        let from = entered(chain, size, frequency, target);
+        let scale = operator::feedback_scale(amount);
+        chain = operator::render_feedback(&pairs, from, scale, add != 0, out);
     }
-    s.first.phase
+    chain.lanes[0].phase
+}
+
+fn mixed(bytes: &[u8]) -> u8 {
+    bytes.iter().fold(0, |all, byte| all ^ *byte)
 }
 
 fn mixed_envelope(e: Envelope) -> u8 {
-    let r = e.rate;
-    let l = e.level;
-    r[0] ^ r[1] ^ r[2] ^ r[3] ^ l[0] ^ l[1] ^ l[2] ^ l[3]
+    mixed(&e.rate) ^ mixed(&e.level)
 }
 
 fn mixed_scaling(k: KeyboardScaling) -> u8 {
@@ -174,17 +151,8 @@ fn mixed_scaling(k: KeyboardScaling) -> u8 {
 }
 
 fn mixed_operator(o: Operator) -> u8 {
-    let e = o.envelope;
-    let scaling = o.keyboard_scaling;
-    e.rate[0]
-        ^ e.rate[1]
-        ^ e.rate[2]
-        ^ e.rate[3]
-        ^ e.level[0]
-        ^ e.level[1]
-        ^ e.level[2]
-        ^ e.level[3]
-        ^ mixed_scaling(scaling)
+    mixed_envelope(o.envelope)
+        ^ mixed_scaling(o.keyboard_scaling)
         ^ o.rate_scaling
         ^ o.amp_mod_sensitivity
         ^ o.velocity_sensitivity
@@ -207,35 +175,15 @@ fn mixed_modulations(m: ModulationParameters) -> u8 {
 
 // Every field of a patch.
 fn mixed_patch(p: Patch) -> u8 {
-    let o = p.op;
-    let e = p.pitch_envelope;
-    let m = p.modulations;
-    let n = p.name;
-    let operators = mixed_operator(o[0])
-        ^ mixed_operator(o[1])
-        ^ mixed_operator(o[2])
-        ^ mixed_operator(o[3])
-        ^ mixed_operator(o[4])
-        ^ mixed_operator(o[5]);
-    let name = n[0] ^ n[1] ^ n[2] ^ n[3] ^ n[4] ^ n[5] ^ n[6] ^ n[7] ^ n[8] ^ n[9];
+    let operators = p.op.iter().fold(0, |all, o| all ^ mixed_operator(*o));
     operators
-        ^ mixed_envelope(e)
-        ^ mixed_modulations(m)
-        ^ name
+        ^ mixed_envelope(p.pitch_envelope)
+        ^ mixed_modulations(p.modulations)
+        ^ mixed(&p.name)
         ^ p.algorithm
         ^ p.feedback
         ^ p.reset_phase
         ^ p.transpose
-}
-
-fn mixed_bytes(s: &[u8; 128]) -> u8 {
-    let mut all = 0u8;
-    let mut i = 0;
-    while i < 128 {
-        all = all ^ s[i];
-        i += 1;
-    }
-    all
 }
 
 // The patch of packed bytes; for too few, the patch of zeros.
@@ -249,11 +197,9 @@ fn unpacked_in_turn(bytes: &[u8], times: usize) -> [Patch; 8]
 {
     let z = Patch::new();
     let mut patches = [z, z, z, z, z, z, z, z];
-    let mut i = 0usize;
-    while i < times {
+    for i in 0..times {
         let k = i % 8;
         patches[k] = read(&bytes[128 * k..128 * k + 128]);
-        i += 1;
     }
     patches
 }
@@ -262,13 +208,9 @@ fn unpacked_in_turn(bytes: &[u8], times: usize) -> [Patch; 8]
 fn packed_in_turn(patches: [Patch; 8], times: usize) -> [[u8; 128]; 8] {
     let z = [0u8; 128];
     let mut out = [z, z, z, z, z, z, z, z];
-    let mut i = 0usize;
-    while i < times {
+    for i in 0..times {
         let k = i % 8;
-        let done = patch_packer::pack(patches[k]);
-        let packed = done.bytes;
-        out[k] = packed;
-        i += 1;
+        out[k] = patch_packer::pack(patches[k]).unwrap_or([0; 128]);
     }
     out
 }
@@ -276,13 +218,10 @@ fn packed_in_turn(patches: [Patch; 8], times: usize) -> [[u8; 128]; 8] {
 // Eight patches checked in turn, `times` in all; their numbers.
 fn checked_in_turn(patches: [Patch; 8], times: usize) -> u8 {
     let mut all = 0u8;
-    let mut i = 0usize;
-    while i < times {
-        all = all
-            ^ patch_limits::check(patches[i % 8])
-                .err()
-                .map_or(0, |r| r.number());
-        i += 1;
+    for i in 0..times {
+        all ^= patch_limits::check(patches[i % 8])
+            .err()
+            .map_or(0, |r| r.number());
     }
     all
 }
@@ -311,8 +250,7 @@ pub extern "C" fn bench_pack(bytes: &[u8], times: usize) -> u8 {
     }
     let patches = unpacked_in_turn(bytes, 8);
     let all = packed_in_turn(patches, times);
-    let one = all[times % 8];
-    mixed_bytes(&one)
+    mixed(&all[times % 8])
 }
 
 // Patches checked.
@@ -328,10 +266,16 @@ pub extern "C" fn bench_check(bytes: &[u8], times: usize) -> u8 {
 // A patch unpacked and packed again; the number.
 #[unsafe(no_mangle)]
 pub extern "C" fn bench_again(bytes: &[u8], out: &mut [u8; 128]) -> u8 {
-    let done = patch_packer::pack(read(bytes));
-    let packed = done.bytes;
-    *out = packed;
-    done.number
+    match patch_packer::pack(read(bytes)) {
+        Ok(packed) => {
+            *out = packed;
+            0
+        }
+        Err(refusal) => {
+            *out = [0; 128];
+            refusal.number()
+        }
+    }
 }
 
 // A bank's number.
@@ -347,47 +291,30 @@ struct Given {
     mix: u8,
 }
 
-fn mix_report(before: u8, complete: bool, slot: u8, last: u8) -> u8 {
-    if complete {
-        return before ^ slot ^ last;
-    }
-    before
+fn mix_report(before: u8, complete: Option<u8>, last: u8) -> u8 {
+    complete.map_or(before, |slot| before ^ slot ^ last)
 }
 
 fn give(first: Receiver, piece: &[u8], patch: &mut [u8; 128], before: u8) -> Given {
     let mut receiver = first;
     let mut mix = before;
-    let mut at = 0usize;
-    let mut turns = piece.len();
-    while turns > 0 && at < piece.len() {
-        let t = bank_pieces::take(receiver, &piece[at..], patch);
-        let next = t.receiver;
+    let mut rest = piece;
+    for _ in 0..piece.len() {
+        if rest.is_empty() {
+            break;
+        }
+        let (next, taken, complete) = match bank_pieces::take(receiver, rest, patch) {
+            Ok(t) => (t.receiver, t.taken, t.complete),
+            Err(refused) => (refused.state, 0, None),
+        };
         receiver = next;
-        at += least(t.taken, piece.len() - at);
-        mix = mix_report(mix, t.complete, t.slot, patch[127]);
-        turns -= 1;
+        rest = &rest[taken.min(rest.len())..];
+        mix = mix_report(mix, complete, patch[127]);
     }
     Given { receiver, mix }
 }
 
-fn least(a: usize, b: usize) -> usize
-    ensures { result ≡ min a b }
-{
-    if a < b { a } else { b }
-}
-
-// Where a piece of a size ends; one of no bytes is all that is left.
-fn piece_end(at: usize, size: usize, length: usize) -> usize
-    requires { at < length }
-    ensures { (at < result) × (result ≤ length) }
-{
-    if size == 0 {
-        return length;
-    }
-    at + least(size, length - at)
-}
-
-// A dump in pieces of a size; its number and channel, and a byte of each reported patch.
+// A dump in pieces of a size, or in one where that is 0; its number and channel, and a byte of each reported patch.
 #[unsafe(no_mangle)]
 pub extern "C" fn bench_pieces(dump: &[u8], size: usize) -> u8 {
     let mut patch = [0u8; 128];
@@ -395,15 +322,11 @@ pub extern "C" fn bench_pieces(dump: &[u8], size: usize) -> u8 {
         receiver: bank_pieces::open(),
         mix: 0,
     };
-    let mut at = 0usize;
-    while at < dump.len() {
-        let end = piece_end(at, size, dump.len());
-        let r = g.receiver;
-        g = give(r, &dump[at..end], &mut patch, g.mix);
-        at = end;
+    let all = dump.len().max(1);
+    for piece in dump.chunks(if size == 0 { all } else { size }) {
+        g = give(g.receiver, piece, &mut patch, g.mix);
     }
-    let last = g.receiver;
-    let told = match bank_pieces::end(last) {
+    let told = match bank_pieces::end(g.receiver) {
         Ok(ended) => ended.channel,
         Err(refused) => refused.refusal.number(),
     };
@@ -439,13 +362,10 @@ fn blocks_in_turn(
     block: &mut [f32],
 ) -> Voice {
     let mut v = first;
-    let mut k = 0u32;
-    while k < blocks {
-        v.dirty = v.dirty | again;
+    for _ in 0..blocks {
+        v.dirty |= again;
         let r = voice_render::render_with(pairs, high, low, v, p, block);
-        let w = r.voice;
-        v = w;
-        k += 1;
+        v = r.voice;
     }
     v
 }
@@ -453,11 +373,8 @@ fn blocks_in_turn(
 // A fresh voice with the patch of packed bytes, which its first block sets up.
 fn loaded(bytes: &[u8]) -> Voice {
     let table = algorithms_opcodes::opcodes_6_32();
-    let patch = read(bytes);
-    let started = voice::init(6, 48000.0);
-    let fresh = started.voice;
-    let set = voice::set_patch(fresh, patch, &table);
-    set.voice
+    let fresh = voice::init(6, 48000.0).voice;
+    voice::set_patch(fresh, read(bytes), &table).voice
 }
 
 // A key that is down.
@@ -482,11 +399,8 @@ pub extern "C" fn bench_voice(bytes: &[u8], note: f32, blocks: u32, block: &mut 
     let low = units::lut_pitch_ratio_low();
     let p = played(note);
     let blank = voice_render::render_with(&pairs, &high, &low, loaded(bytes), p, block);
-    let clean = blank.voice;
-    let v = blocks_in_turn(&pairs, &high, &low, clean, false, p, blocks, block);
-    let o = v.operator;
-    let last = o[5];
-    last.phase
+    let v = blocks_in_turn(&pairs, &high, &low, blank.voice, false, p, blocks, block);
+    v.operator[5].phase
 }
 
 // One float more in a sum.
@@ -494,27 +408,17 @@ fn mixed_in(sum: u32, x: f32) -> u32 {
     numbers::wrapping_add_u32(numbers::wrapping_mul_u32(sum, 31), numbers::f32_to_bits(x))
 }
 
-fn mixed_stages(sum: u32, x: [f32; 4]) -> u32 {
-    let a = mixed_in(sum, x[0]);
-    let b = mixed_in(a, x[1]);
-    let c = mixed_in(b, x[2]);
-    mixed_in(c, x[3])
+fn mixed_stages(sum: u32, stages: [f32; 4]) -> u32 {
+    stages.iter().fold(sum, |sum, x| mixed_in(sum, *x))
 }
 
 // What a patch set up: each operator's levels, increments and headroom.
 fn mixed_setup(v: Voice) -> u32 {
-    let envelopes = v.operator_envelope;
-    let headroom = v.level_headroom;
     let mut sum = 0u32;
-    let mut i = 0usize;
-    while i < 6 {
-        let e = envelopes[i];
-        let level = e.level;
-        let increment = e.increment;
-        sum = mixed_stages(sum, level);
-        sum = mixed_stages(sum, increment);
-        sum = mixed_in(sum, headroom[i]);
-        i += 1;
+    for (e, headroom) in v.operator_envelope.iter().zip(&v.level_headroom) {
+        sum = mixed_stages(sum, e.level);
+        sum = mixed_stages(sum, e.increment);
+        sum = mixed_in(sum, *headroom);
     }
     sum
 }
@@ -541,6 +445,5 @@ pub extern "C" fn bench_setup(bytes: &[u8], times: u32, block: &mut [f32]) -> u3
 // The identifier of a packed patch.
 #[unsafe(no_mangle)]
 pub extern "C" fn bench_identify(bytes: &[u8]) -> u64 {
-    let done = identity::identify(read(bytes));
-    done.identifier
+    identity::identify(read(bytes)).identifier
 }

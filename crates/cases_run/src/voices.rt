@@ -2,6 +2,7 @@
 use crate::{heading, line};
 use dx_units_step::Mark;
 use patch::Patch;
+use refusals::Refused;
 use std::io;
 use streams::{Line, Streams};
 use voice::Voice;
@@ -20,15 +21,42 @@ fn parameters(note: f32) -> VoiceParameters {
     }
 }
 
+// The voice that a caller goes on with.
+fn after(done: Result<Voice, Refused<Voice>>) -> Voice {
+    match done {
+        Ok(v) => v,
+        Err(e) => e.state,
+    }
+}
+
+fn after_block(done: Result<Rendered, Refused<Voice>>) -> Voice {
+    match done {
+        Ok(r) => r.voice,
+        Err(e) => e.state,
+    }
+}
+
+// The number of an answer: 0 for one that is no refusal.
+fn number_of(done: Result<Voice, Refused<Voice>>) -> u64 {
+    match done {
+        Ok(_) => 0,
+        Err(e) => u64::from(e.refusal.number()),
+    }
+}
+
+fn number_of_block(done: Result<Rendered, Refused<Voice>>) -> u64 {
+    match done {
+        Ok(_) => 0,
+        Err(e) => u64::from(e.refusal.number()),
+    }
+}
+
 // A voice of six operators that has a packed patch.
 fn loaded(packed: &[u8]) -> Voice {
     let table = algorithms_opcodes::opcodes_6_32();
     let p = patch::unpack(Patch::new(), packed).unwrap_or(Patch::new());
-    let started = voice::init(6, 48000.0);
-    let fresh = started.voice;
-    let set = voice::set_patch(fresh, p, &table);
-    let v = set.voice;
-    v
+    let fresh = after(voice::init(6, 48000.0));
+    after(voice::set_patch(fresh, p, &table))
 }
 
 // One with the patch of zeros.
@@ -52,7 +80,9 @@ fn high() -> Voice {
 }
 
 fn started(to: Streams, text: &str, operators: usize, sample_rate: f32) -> io::Result<()> {
-    line(to, text, voice::init(operators, sample_rate).number as u64)
+    line(to, text,
+        number_of(voice::init(operators, sample_rate)),
+    )
 }
 
 fn starts(to: Streams) -> io::Result<()> {
@@ -64,19 +94,15 @@ fn starts(to: Streams) -> io::Result<()> {
 // The easy slip: a blank block does not record the gate.
 fn gates(to: Streams) -> io::Result<()> {
     let mut block = [0.0f32; 8];
-    let blank = voice_render::render(dirty(), parameters(60.0), &mut block);
-    let v = blank.voice;
-    let sounding = voice_render::render(v, parameters(60.0), &mut block);
-    let w = sounding.voice;
+    let v = after_block(voice_render::render(dirty(), parameters(60.0), &mut block));
+    let w = after_block(voice_render::render(v, parameters(60.0), &mut block));
     line(to, "gate after a blank block: ", v.gate as u64)?;
     line(to, "gate after a sounding block: ", w.gate as u64)
 }
 
 fn rendered(to: Streams, text: &str, note: f32, block: &mut [f32]) -> io::Result<()> {
-    line(
-        to,
-        text,
-        voice_render::render(dirty(), parameters(note), block).number as u64,
+    line(to, text,
+        number_of_block(voice_render::render(dirty(), parameters(note), block)),
     )
 }
 
@@ -100,11 +126,19 @@ fn digit(mark: Mark) -> char {
     }
 }
 
-fn marked(to: Streams, text: &str, r: Rendered) -> io::Result<()> {
+// A block's marks; a refused one's are all as asked.
+fn marks_of(done: Result<Rendered, Refused<Voice>>) -> [Mark; 6] {
+    match done {
+        Ok(r) => r.marks,
+        Err(_) => [Mark::AsAsked; 6],
+    }
+}
+
+fn marked(to: Streams, text: &str, done: Result<Rendered, Refused<Voice>>) -> io::Result<()> {
     let mut line = Line::led_by(b"");
     line.put(text);
-    for m in r.marks {
-        line.put(digit(m.mark));
+    for mark in marks_of(done) {
+        line.put(digit(mark));
     }
     line.print(to)
 }
@@ -113,7 +147,7 @@ fn marked(to: Streams, text: &str, r: Rendered) -> io::Result<()> {
 fn marks(to: Streams) -> io::Result<()> {
     let mut block = [0.0f32; 8];
     let blank = voice_render::render(high(), parameters(100.0), &mut block);
-    let v = blank.voice;
+    let v = after_block(blank);
     marked(to, "marks of a blank block: ", blank)?;
     let sounding = voice_render::render(v, parameters(100.0), &mut block);
     marked(to, "marks of a sounding block: ", sounding)?;
@@ -127,28 +161,22 @@ fn marks(to: Streams) -> io::Result<()> {
 fn transposing(transpose: u8, on: bool) -> Voice {
     let mut packed = [0u8; 128];
     packed[117] = transpose;
-    let done = voice::set_transposing(loaded(&packed), on);
-    let v = done.voice;
-    v
+    after(voice::set_transposing(loaded(&packed), on))
 }
 
 // The note that a voice has after a blank block and a sounding one.
 fn played(to: Streams, text: &str, v: Voice, note: f32) -> io::Result<()> {
     let mut block = [0.0f32; 8];
-    let blank = voice_render::render(v, parameters(note), &mut block);
-    let w = blank.voice;
-    let sounding = voice_render::render(w, parameters(note), &mut block);
-    let x = sounding.voice;
+    let w = after_block(voice_render::render(v, parameters(note), &mut block));
+    let x = after_block(voice_render::render(w, parameters(note), &mut block));
     line(to, text, numbers::f32_as_u32(x.note) as u64)
 }
 
 // The number of a blank block.
 fn asked(to: Streams, text: &str, v: Voice, note: f32) -> io::Result<()> {
     let mut block = [0.0f32; 8];
-    line(
-        to,
-        text,
-        voice_render::render(v, parameters(note), &mut block).number as u64,
+    line(to, text,
+        number_of_block(voice_render::render(v, parameters(note), &mut block)),
     )
 }
 
@@ -156,39 +184,33 @@ fn asked(to: Streams, text: &str, v: Voice, note: f32) -> io::Result<()> {
 fn transposes(to: Streams) -> io::Result<()> {
     let low = transposing(0, true);
     let high = transposing(48, true);
-    let taken = voice::take_patch(high);
-    let none = taken.voice;
-    played(
-        to,
-        "transpose 36, switch off, note 60 plays: ",
+    let none = after(voice::take_patch(high));
+    played(to, "transpose 36, switch off, note 60 plays: ",
         transposing(36, false),
         60.0,
     )?;
-    played(
-        to,
-        "transpose 36, switch on, note 60 plays: ",
+    played(to, "transpose 36, switch on, note 60 plays: ",
         transposing(36, true),
         60.0,
     )?;
     asked(to, "transpose 0, switch on, note 24: ", low, 24.0)?;
-    asked(
-        to,
-        "transpose 0, switch on, note 23.999998: ",
+    asked(to, "transpose 0, switch on, note 23.999998: ",
         low,
         23.999998,
     )?;
     asked(to, "transpose 48, switch on, note 103: ", high, 103.0)?;
-    asked(
-        to,
-        "transpose 48, switch on, note 103.00001: ",
+    asked(to, "transpose 48, switch on, note 103.00001: ",
         high,
         103.00001,
     )?;
-    asked(to, "no patch, switch on, note 103.00001: ", none, 103.00001)
+    asked(to, "no patch, switch on, note 103.00001: ",
+        none,
+        103.00001,
+    )
 }
 
 fn taken_out(to: Streams, text: &str, v: Voice) -> io::Result<()> {
-    line(to, text, voice::take_patch(v).number as u64)
+    line(to, text, number_of(voice::take_patch(v)))
 }
 
 fn refusals(to: Streams) -> io::Result<()> {

@@ -50,7 +50,6 @@ pub fn pitch_envelope_level(level: u8) -> Result<f32, Refusal>
 }
 
 // An operator envelope's rate from 0 to 99 as a frequency.
-#[tactic(auto, unfolding(crate::specs::Answers::operator_envelope_increment_answer, patch::specs::Layout::envelope_field))]
 pub fn operator_envelope_increment(rate: u8) -> Result<f32, Refusal>
     ensures { result ≡ operator_envelope_increment_answer rate }
 {

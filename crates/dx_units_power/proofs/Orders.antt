@@ -1,23 +1,9 @@
--- The orders of `pow_2_fast`, and what its calls give, over plain variables. Assumes nothing.
-use Rattle.std.proofs.Common.{◌≡◌, ℕ, ◌^◌, ◌<◌, true, false, ℤ, pos, negsuc, refl, ap, ◌∙◌, arith, w32, of_z, eq-eqb}
-use Rattle.std.proofs.Common.{ne_eqb}
-use lib.Signed.{mag}
+-- What the calls of `pow_2_fast` give, over plain variables. Assumes nothing.
+use Rattle.std.proofs.Common.{◌≡◌, ℕ, true, false, ℤ, pos, w32, of_z}
 use lib.Ieee.{Float, binary32, lt, of_bits, of_int, to_signed}
 use Rattle.numbers.specs.F32.{◌⊕◌, ◌⊖◌, ◌⊗◌, decimal}
 use Rattle.numbers.specs.Words.{sum32, shifted32, difference_signed}
 use Rattle.dx_units_power.specs.Pow.{is_order, whole_below, mantissa_bits, pow2_fast}
-
--- the code compares an order's bits
-pub the_order : (k : ℕ) (z : ℤ) → k < 2 ^ 31 → mag z < 2 ^ 31 → of_z w32 z ≡ k → z ≡ pos k
-the_order k (pos n) l h e = ap pos e
-the_order k (negsuc n) l h e = let q : ⊥ = omega arith in absurd q
-
-pub is_order_lem : (k : ℕ) (z : ℤ) → k < 2 ^ 31 → mag z < 2 ^ 31 → of_z w32 z ≡ k → is_order k z ≡ true
-is_order_lem k z l h e = ap (is_order k) (the_order k z l h e) ∙ eq-eqb k k refl
-
-pub not_order : (k : ℕ) (z : ℤ) → (of_z w32 z ≡ k → ⊥) → is_order k z ≡ false
-not_order k (pos n) e = ne_eqb n k e
-not_order k (negsuc n) e = refl
 
 -- a call is handed a signed number m that is n, read back from its bits, and r is read back as s
 pub below_zero : (x : Float) {n m r s : ℤ} → lt x (decimal 0 0) ≡ true → n ≡ to_signed 31 x → m ≡ n

@@ -3,7 +3,7 @@
 use Rattle.std.proofs.Common.{◌≡◌, ℕ, zero, suc, ◌+◌, ◌-◌, ◌*◌, ◌/◌, ◌%◌, ◌^◌, ◌<◌, ◌≤◌, min, Bool, true, false, cond}
 use Rattle.std.proofs.Common.{not, ◌&&◌, ◌||◌, T, eqb, ltb, ℤ, pos, negsuc, neg_ℤ, sym, refl, ap, ◌∙◌, subst, mul_comm}
 use Rattle.std.proofs.Common.{div-lt_iff_lt-mul, add-one, arith, le→leb, lt→ltb, w32, to_z, of_z, ltb-false, ltb-true}
-use Rattle.std.proofs.Common.{le-ltb, lt-ltb, eqb-true}
+use Rattle.std.proofs.Common.{le-ltb, lt-ltb, eqb-true, mod-lt, pow_pos}
 use Prim.Native.Nat.{compare}
 use native.Mathlib.Nat.{div-le_of_le-mul}
 use borrow.Author.Tests.{eqb-false}
@@ -208,10 +208,12 @@ taken : (p q : ℕ) → q < 126 → difference32 p (shifted32 (q + 1) 23) ≡ su
 taken p q h = omega arith
 
 pub fallen : (x : Float) {q p s : ℕ} {r : Float} → Falling x → q ≡ to_unsigned 64 (neg x)
-    → p ≡ mantissa_bits (x ⊕ as_float (q + 1)) (pos 2) → s ≡ difference32 p (shifted32 (q + 1) 23)
+    → p ≡ mantissa_bits (x ⊕ as_float (q + 1)) (pos 2) → s ≡ (p + (2 ^ 32 - shifted32 (q + 1) 23)) % 2 ^ 32
     → r ≡ of_bits binary32 s → r ≡ pow2_fast x (pos 2)
 unfolding pow2_fast
-fallen x {q} v eq ep es er =
-    let w : whole_below x ≡ negsuc q = falling_whole x v ∙ ap negsuc (sym eq) in
-    let l : q < 126 = omega (arith, eq, falling_count x v) in
-    simp (w, er, es, ep, away x q) (ap (of_bits binary32) (taken (mantissa_bits (x ⊕ as_float (q + 1)) (pos 2)) q l))
+fallen x {q} {p} v eu ep es er =
+    let d : (p + (2 ^ 32 - shifted32 (q + 1) 23)) % 2 ^ 32 ≡ difference32 p (shifted32 (q + 1) 23) =
+    ap (λ (n : ℕ). n % 2 ^ 32) (omega (arith, mod-lt ((q + 1) * 2 ^ 23) (pow_pos 32))) in
+    let w : whole_below x ≡ negsuc q = falling_whole x v ∙ ap negsuc (sym eu) in
+    let l : q < 126 = omega (arith, eu, falling_count x v) in
+    simp (w, er, es ∙ d, ep, away x q) (ap (of_bits binary32) (taken (mantissa_bits (x ⊕ as_float (q + 1)) (pos 2)) q l))

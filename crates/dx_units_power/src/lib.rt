@@ -8,16 +8,15 @@ ghost use Rattle.dx_units_power.specs.Pow.{pow2_fast, is_order, whole_below, man
 
 // 2^x, by moving the exponent of a polynomial's value at the part of x past a whole number. The order is
 // the polynomial's.
+// Stays: the order is a number, since the contract answers for every i32, and the judge asks for any.
 pub fn pow_2_fast(x: f32, order: i32) -> f32
     ensures { result ≡ pow2_fast x order }
 {
-    if order == 1 {
-        return pow_2_fast_1(x);
+    match order {
+        1 => pow_2_fast_1(x),
+        2 => pow_2_fast_2(x),
+        _ => pow_2_any(x, order),
     }
-    if order == 2 {
-        return pow_2_fast_2(x);
-    }
-    pow_2_any(x, order)
 }
 
 // Order 1, the polynomial's exponent and value in one cast: between these ends the product is whole, and
@@ -29,8 +28,7 @@ pub fn pow_2_fast_1(x: f32) -> f32
     if (y >= 8388608.0) & (y <= 2139095040.0) {
         return f32::from_bits((y as f64) as u32);
     }
-    let bits = numbers::f32_as_i32(y);
-    numbers::f32_from_bits(numbers::i32_as_u32(bits))
+    numbers::f32_from_bits(numbers::f32_as_i32(y).cast_unsigned())
 }
 
 // Order 2. Exponents in reach go without the casts' tests.
@@ -54,7 +52,7 @@ fn rising(x: f32) -> f32
 {
     let n = std::num::truncating_f32_to_u64(x) as u32;
     let m = mantissa(x - (n as f32), 2);
-    numbers::f32_from_bits(numbers::wrapping_add_u32(m, n << 23))
+    numbers::f32_from_bits(m.wrapping_add(n << 23))
 }
 
 // Order 2 between -126 and 0: how far the whole number is below 0 is taken from the exponent.
@@ -64,7 +62,7 @@ fn falling(x: f32) -> f32
 {
     let n = std::num::truncating_f32_to_u64(-x) as u32 + 1;
     let m = mantissa(x + (n as f32), 2);
-    numbers::f32_from_bits(numbers::wrapping_sub_u32(m, n << 23))
+    numbers::f32_from_bits(m.wrapping_sub(n << 23))
 }
 
 // Any order but 1, and any x.
@@ -74,8 +72,8 @@ fn pow_2_any(x: f32, order: i32) -> f32
 {
     let integral = whole_below(x);
     let mantissa = mantissa(x - numbers::i32_as_f32(integral), order);
-    let exponent = numbers::wrapping_shl_u32(numbers::i32_as_u32(integral), 23);
-    numbers::f32_from_bits(numbers::wrapping_add_u32(mantissa, exponent))
+    let exponent = integral.cast_unsigned() << 23;
+    numbers::f32_from_bits(mantissa.wrapping_add(exponent))
 }
 
 // The whole number at or below x; one too low at a negative whole number, as in the Rust.
@@ -90,14 +88,13 @@ pub fn whole_below(x: f32) -> i32
 }
 
 // The bits of the polynomial of an order; none for an order that has no polynomial.
+#[tactic(auto, unfolding(crate::specs::Pow::mantissa_bits))]
 pub fn mantissa(x: f32, order: i32) -> u32
     ensures { result ≡ mantissa_bits x order }
 {
-    if order == 2 {
-        return numbers::f32_to_bits(1.0 + x * (0.6565 + x * 0.3435));
+    match order {
+        2 => numbers::f32_to_bits(1.0 + x * (0.6565 + x * 0.3435)),
+        3 => numbers::f32_to_bits(1.0 + x * (0.6958 + x * (0.2251 + x * 0.0791))),
+        _ => 0,
     }
-    if order == 3 {
-        return numbers::f32_to_bits(1.0 + x * (0.6958 + x * (0.2251 + x * 0.0791)));
-    }
-    0
 }

@@ -5,14 +5,14 @@ use Prim.Native.Nat.{ℕ, zero, suc, ◌+◌, ◌*◌, ◌^◌}
 use native.Mathlib.Omega.{arith}
 use borrow.Author.Tests.{ltb-true, ltb-false, eqb-true, eq-eqb, lt-ltb, le-ltb}
 use lib.Dec.{eqb, ltb}
-use lib.Ieee.{Float, nan, inf, fin, binary32, lt, le, eq, ne, is_nan, mul, to_unsigned, up, down}
+use lib.Ieee.{Float, nan, inf, fin, binary32, lt, le, eq, is_nan, mul, to_unsigned, up, down}
 use lib.Ieee.{low, emax, odd, units, round}
 use lib.Ieee.Bits.{is_true}
 use lib.Ieee.Fits.{down_pos, round_is}
 use Rattle.numbers.specs.F32.{◌⊗◌, decimal}
 use Rattle.numbers.specs.Extremes.{minimum}
 use Rattle.numbers.proofs.Views.{no, on, both, or_le}
-use Rattle.numbers.proofs.Casts.{le_or, ne_self}
+use Rattle.numbers.proofs.Casts.{le_or}
 use Rattle.dx_units_step.specs.declared.Mark.{Mark}
 use Rattle.dx_units_step.specs.declared.Mark.TheVariants.{AsAsked, HeldAtTop, HeldAtZero}
 use Rattle.dx_units_step.specs.Step.{step_for, mark_for}
@@ -145,16 +145,16 @@ module _ (x : Float) where
 -- ---- by the tests of a program, in which only a NaN differs from itself
 
 module _ (x : Float) where
-  pub tested_top : (lt (decimal 5 1) x || ne x x) ≡ true → HeldAtTop ≡ mark_for x
-  tested_top h = sym (top_there x (rw (← ne_self x) h))
+  pub tested_top : (lt (decimal 5 1) x || is_nan x) ≡ true → HeldAtTop ≡ mark_for x
+  tested_top h = sym (top_there x h)
 
-  module _ (not_top : (lt (decimal 5 1) x || ne x x) ≡ false) where
+  module _ (not_top : (lt (decimal 5 1) x || is_nan x) ≡ false) where
     pub tested_zero : lt x (decimal 0 0) ≡ true → HeldAtZero ≡ mark_for x
     tested_zero h = sym (zero_there x h)
 
     pub tested_asked : lt x (decimal 0 0) ≡ false → AsAsked ≡ mark_for x
     unfolding mark_for
-    tested_asked h = rw (← ne_self x, not_top, h) refl
+    tested_asked h = rw (not_top, h) refl
 
 -- ---- and the step
 

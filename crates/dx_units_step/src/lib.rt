@@ -6,21 +6,15 @@ ghost use Rattle.std.specs.Prelude.{◌≡◌};
 ghost use Rattle.dx_units_step.specs.Step.{mark_for, stepped_for};
 
 // What became of a frequency on the way to its step.
-#[derive(Clone, Copy)]
+#[derive(Clone, Copy, Debug, PartialEq, Eq)]
 pub enum Mark {
     AsAsked,
     HeldAtTop,
     HeldAtZero,
 }
 
-// A mark, as an element of an array.
-#[derive(Clone, Copy)]
-pub struct Marked {
-    pub mark: Mark,
-}
-
 // A step and its mark.
-#[derive(Clone, Copy)]
+#[derive(Clone, Copy, Debug, PartialEq, Eq)]
 pub struct Stepped {
     pub step: u32,
     pub mark: Mark,
@@ -31,7 +25,7 @@ pub struct Stepped {
 fn mark_of(frequency: f32) -> Mark
     ensures { result ≡ mark_for frequency }
 {
-    if (frequency > 0.5) | (frequency != frequency) {
+    if (frequency > 0.5) | frequency.is_nan() {
         return Mark::HeldAtTop;
     }
     if frequency < 0.0 {

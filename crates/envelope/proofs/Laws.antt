@@ -13,7 +13,8 @@ use Rattle.envelope.specs.Answers.{envelope_after, state_fits, operator_fits, pi
 use Rattle.envelope.specs.Answers.{set_answer, operator_set_answer, pitch_set_answer, render_answer}
 
 module _ (reshape gate : Bool) (rate ad_scale release_scale : Float) (e : Envelope) where
-  pub render_keeps_9 : state_fits (envelope_after (render_answer reshape gate rate ad_scale release_scale e)) ≡ state_fits e
+  pub render_keeps_9
+      : state_fits (envelope_after (render_answer reshape gate rate ad_scale release_scale e)) ≡ state_fits e
   unfolding render_answer
   render_keeps_9 = go (state_fits e) refl
     where

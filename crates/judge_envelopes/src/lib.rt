@@ -1,5 +1,5 @@
-// The judge's entries 58 to 5f and 74 to 77 (hex, docs/ORACLE.md): the crate `envelope`. The envelope is the register's.
-// On the wire it is its stage in four bytes and eleven floats.
+// The judge's entries 58 to 5f and 74 to 77 (hex, docs/ORACLE.md): the crate `envelope`. The envelope is the
+// register's. On the wire it is its stage in four bytes and eleven floats.
 #![tactic(auto)]
 
 use envelope::Rendered;

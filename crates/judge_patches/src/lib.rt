@@ -39,9 +39,8 @@ fn unpack(packed: &[u8], patch: &mut Patch, out: &mut Answer<'_>) {
 }
 
 fn pack(patch: Patch, out: &mut Answer<'_>) {
-    let done = patch_packer::pack(patch);
-    out.byte(done.number);
-    out.bytes(&done.bytes);
+    let bytes = out.value(patch_packer::pack(patch), [0; 128]);
+    out.bytes(&bytes);
 }
 
 pub fn read_patch(fields: &mut Fields<'_>) -> Patch {

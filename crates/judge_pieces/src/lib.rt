@@ -2,7 +2,7 @@
 // it are the register's; no answer writes them.
 #![tactic(auto)]
 
-use bank_pieces::Receiver;
+use bank_pieces::{Receiver, Taken};
 use judge_wire::{Answer, Fields};
 
 // The reader of a bank in pieces, and the buffer that goes with it.
@@ -42,13 +42,23 @@ pub fn answer(entry: u8, fields: &mut Fields<'_>, reading: &mut Reading, out: &m
 
 // A patch is written as zeros where none is complete.
 fn take(piece: &[u8], reading: &mut Reading, out: &mut Answer<'_>) {
-    let done = bank_pieces::take(reading.receiver, piece, &mut reading.buffer);
+    let (number, done) = match bank_pieces::take(reading.receiver, piece, &mut reading.buffer) {
+        Ok(done) => (0, done),
+        Err(refused) => (
+            refused.refusal.number(),
+            Taken {
+                receiver: refused.state,
+                taken: 0,
+                complete: None,
+            },
+        ),
+    };
     reading.receiver = done.receiver;
-    out.byte(done.number);
+    out.byte(number);
     out.word((done.taken % 0x1_0000_0000) as u32);
-    out.flag(done.complete);
-    out.byte(done.slot);
-    let patch = if done.complete {
+    out.flag(done.complete.is_some());
+    out.byte(done.complete.unwrap_or(0));
+    let patch = if done.complete.is_some() {
         reading.buffer
     } else {
         [0; 128]

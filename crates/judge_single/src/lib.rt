@@ -3,6 +3,7 @@
 
 use judge_wire::{Answer, Fields};
 use patch::Patch;
+use single::Repacked;
 
 // The length of the call whose fields these are, its entry's byte included; 0 for no entry of this crate.
 pub fn length(entry: u8, mut fields: Fields<'_>) -> usize {
@@ -25,27 +26,35 @@ pub fn answer(entry: u8, fields: &mut Fields<'_>, patch: &mut Patch, out: &mut A
 }
 
 fn read(dump: &[u8], patch: &mut Patch, out: &mut Answer<'_>) {
-    let done = single::read(*patch, dump);
-    *patch = done.patch;
-    out.bytes(&[done.number, done.channel]);
+    let (number, channel) = match single::read(*patch, dump) {
+        Ok(parsed) => {
+            *patch = parsed.patch;
+            (0, parsed.channel)
+        }
+        Err(refused) => (refused.refusal.number(), 0),
+    };
+    out.bytes(&[number, channel]);
     judge_patches::put_patch(out, patch);
 }
 
 fn write(patch: Patch, channel: u8, out: &mut Answer<'_>) {
-    let done = single::write(patch, channel);
-    out.byte(done.number);
-    out.bytes(&done.bytes);
+    let bytes = out.value(single::write(patch, channel), [0; 163]);
+    out.bytes(&bytes);
 }
 
 // No patch is refused with 14 yet: its place is 0.
 fn from_packed(packed: &[u8], channel: u8, out: &mut Answer<'_>) {
-    let done = single::from_packed(packed, channel);
-    out.bytes(&[done.number, 0]);
-    out.bytes(&done.bytes);
+    let bytes = out.value(single::from_packed(packed, channel), [0; 163]);
+    out.byte(0);
+    out.bytes(&bytes);
 }
 
 fn to_packed(dump: &[u8], out: &mut Answer<'_>) {
-    let done = single::to_packed(dump);
-    out.bytes(&[done.number, done.channel]);
+    let zeros = Repacked {
+        channel: 0,
+        bytes: [0; 128],
+    };
+    let done = out.value(single::to_packed(dump), zeros);
+    out.byte(done.channel);
     out.bytes(&done.bytes);
 }

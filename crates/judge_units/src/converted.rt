@@ -1,5 +1,5 @@
-// The entries 30 to 46 (hex): the crates `dx_units`, `units`, `utils`, `sine` and `random`. The number of a refusal comes
-// first, and a refused value is written as 0.
+// The entries 30 to 46 (hex): the crates `dx_units`, `units`, `utils`, `sine` and `random`. The number of a refusal
+// comes first, and a refused value is written as 0.
 use dx_units::{Increments, Mark, Ratio, Stepped};
 use judge_wire::{Answer, Fields};
 use refusals::Refusal;

@@ -11,7 +11,6 @@ use operator::{Feedback, Operator};
 use patch::Patch;
 use voice::{Loaded, Prepared, Voice};
 use voice_render::{Rendered, VoiceParameters};
-use voice_setup::Tuned;
 
 // The bytes of a voice, and the numbers of the longest block.
 const SIZE: usize = 667;
@@ -197,8 +196,8 @@ fn render(entry: u8, fields: &mut Fields<'_>, kept: &mut Voice, out: &mut Answer
     let done = rendered(given, *kept, p, block);
     *kept = done.voice;
     out.byte(done.number);
-    for marked in &done.marks {
-        judge_units::put_mark(out, marked.mark);
+    for mark in &done.marks {
+        judge_units::put_mark(out, *mark);
     }
     if entry == 0x89 {
         out.eight(digest(block, &written(kept)));
@@ -284,8 +283,8 @@ pub fn read_voice(fields: &mut Fields<'_>) -> Voice {
     v.pitch_envelope = judge_envelopes::read_envelope(fields);
     v.normalized_velocity = fields.float();
     v.note = fields.float();
-    for t in v.ratios.iter_mut() {
-        t.ratio = read_ratio(fields);
+    for ratio in v.ratios.iter_mut() {
+        *ratio = read_ratio(fields);
     }
     v.level_headroom = fields.floats();
     v.feedback_state = Feedback {
@@ -339,8 +338,8 @@ pub fn put_voice(out: &mut Answer<'_>, v: &Voice) {
     }
     judge_envelopes::put_envelope(out, &v.pitch_envelope);
     out.floats(&[v.normalized_velocity, v.note]);
-    for t in &v.ratios {
-        judge_units::put_ratio(out, t.ratio);
+    for ratio in &v.ratios {
+        judge_units::put_ratio(out, *ratio);
     }
     out.floats(&v.level_headroom);
     out.floats(&[v.feedback_state.previous_0, v.feedback_state.previous_1]);

@@ -5,14 +5,15 @@ use mathlib.Core.Path.{◌≡◌, refl, sym, ap, ◌∙◌}
 use Prim.Native.Nat.{ℕ, suc, ◌+◌, ◌≤◌, ◌<◌}
 use native.Mathlib.Nat.{le_refl}
 use native.Mathlib.Numerals.{add-one}
+use native.Mathlib.Omega.{arith}
 use mathlib.Core.Bool.{Bool}
-use mathlib.Core.List.{List, ◌∷◌, append-nil}
-use lib.ListN.{length, drop, get_or, set, length-set, drop_of_length-le}
+use mathlib.Core.List.{List, [], ◌∷◌, ◌++◌, append-nil}
+use lib.ListN.{length, take, drop, get_or, set, length-set, drop_of_length-le}
 use lib.Seq.{take_all, take-suc-set, drop-set-lt, drop-cons, append_snoc}
 use lib.Ieee.{Float, nan}
-use Rattle.operator.specs.Sample.{mixed}
+use Rattle.operator.specs.Sample.{mixed, sampled, moved}
 use Rattle.operator.specs.Chain.{Source, Chain, entered, kept, through, all_moved, heard, next, ended, written}
-use Rattle.operator.specs.Chain.{Rendered}
+use Rattle.operator.specs.Chain.{alone, Rendered}
 use Rattle.operator.specs.Parts.{Going}
 use Rattle.operator.specs.declared.Lane.{Lane}
 use Rattle.operator.specs.declared.Feedback.{Feedback}
@@ -83,3 +84,46 @@ module _ {pairs : List Float} {source : Source} {add : Bool} where
     samples = sym (append-nil after) ∙ (rw (take_all j after h, drop_of_length-le after h) at r.samples);
     chain = rw (drop_of_length-le after h) at r.chains;
   }
+
+-- ---- a sample of a chain, operator by operator
+
+-- k operators have passed a sample on: what is left of the chain `now` makes of `pm` what the whole made of the first
+pub record Passed (pairs : List Float) (ls : List Lane) (first : Float) (k : ℕ) (now : List Lane) (pm : Float)
+    : Type 0 where
+  pub sample : through pairs (drop k now) pm ≡ through pairs ls first
+  pub lanes : take k now ++ all_moved (drop k now) ≡ all_moved ls
+  pub size : length now ≡ length ls
+
+module _ {pairs : List Float} {ls : List Lane} {first : Float} where
+  pub passed_first : Passed pairs ls first 0 ls first
+  passed_first = record { sample = refl; lanes = refl; size = refl }
+
+  pub passed_turn : {k : ℕ} {now : List Lane} {pm pm' : Float} {l l' : Lane} (past : Lane)
+      → Passed pairs ls first k now pm → k < length now → l ≡ get_or now k past
+      → pm' ≡ sampled pairs l pm → l' ≡ moved l → Passed pairs ls first (k + 1) (set now k l') pm'
+  unfolding through all_moved
+  passed_turn {k} {now} {pm} {pm'} {l} {l'} past p h e ep el =
+      let rest = drop-set-lt (suc k) now k l' (le_refl (suc k)) in
+      let here = drop-cons now k past h in
+      record {
+        sample = rw (add-one k, rest, ep, e) (ap (λ (z : List Lane). through pairs z pm) (sym here) ∙ p.sample);
+        lanes = rw (add-one k, take-suc-set now k l' h, rest, append_snoc, el, e)
+            (ap (λ (z : List Lane). take k now ++ all_moved z) (sym here) ∙ p.lanes);
+        size = length-set now k l' ∙ p.size;
+      }
+
+  pub passed_done : {k : ℕ} {now : List Lane} {pm : Float} → Passed pairs ls first k now pm → length now ≤ k
+      → (pm ≡ through pairs ls first) × (now ≡ all_moved ls)
+  unfolding through all_moved
+  passed_done {k} {now} {pm} p h =
+      let none = drop_of_length-le now h in
+      (rw none at p.sample, sym (append-nil now) ∙ (rw (take_all k now h, none) at p.lanes))
+
+-- a chain of one is its operator alone
+pub lone : {pairs : List Float} {source : Source} {add : Bool} (ls : List Lane) (past : Lane) (f : Feedback)
+    {out after : List Float} {e : Chain} → length ls ≡ 1
+    → Rendered pairs source add (alone (get_or ls 0 past) f) out e after
+    → Rendered pairs source add (record { lanes = ls; feedback = f }) out e after
+lone [] past f h r = absurd (omega (arith, h))
+lone (l ∷ []) past f h r = r
+lone (l ∷ m ∷ ls) past f h r = absurd (omega (arith, h))

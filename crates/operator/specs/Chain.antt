@@ -5,9 +5,7 @@ use Rattle.numbers.specs.F32.{decimal}
 use Rattle.operator.specs.Sample.{sampled, moved, fed, pushed, mixed}
 use Rattle.operator.specs.declared.Feedback.{Feedback}
 use Rattle.operator.specs.declared.Lane.{Lane}
-use Rattle.operator.specs.declared.Single.{Single}
-use Rattle.operator.specs.declared.Pair.{Pair}
-use Rattle.operator.specs.declared.Triple.{Triple}
+use Rattle.operator.specs.declared.Chain.{Chain as Held}
 
 -- what modulates a chain's first operator: nothing, the samples of a buffer, or feedback from its last operator, scaled
 pub data Source : Type 0 where
@@ -20,14 +18,13 @@ pub record Chain : Type 0 where
   pub lanes : List Lane
   pub feedback : Feedback
 
-abbrev pub one : Single → Chain
-one s = record { lanes = s.first ∷ []; feedback = s.feedback }
+-- the code's chain, of a number of operators
+abbrev pub chain_of : {n : ℕ} → Held n → Chain
+chain_of c = record { lanes = c.lanes; feedback = c.feedback }
 
-abbrev pub two : Pair → Chain
-two s = record { lanes = s.first ∷ s.second ∷ []; feedback = s.feedback }
-
-abbrev pub three : Triple → Chain
-three s = record { lanes = s.first ∷ s.second ∷ s.third ∷ []; feedback = s.feedback }
+-- a chain of one operator
+abbrev pub alone : Lane → Feedback → Chain
+alone l f = record { lanes = l ∷ []; feedback = f }
 
 -- the modulation that goes into sample i
 unfoldable pub entered : Source → ℕ → Feedback → Float

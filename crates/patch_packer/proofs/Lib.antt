@@ -1,3 +1,4 @@
 pub mod Bytes
+pub mod Checked
 pub mod RoundTrip
 pub mod Tables

@@ -12,7 +12,6 @@ use lib.ListN.{length, get_or, take}
 use lib.Seq.{ext_get_or, get_or-take, length-take-le}
 use Rattle.std.specs.Prelude.{Ok}
 use Rattle.refusals.specs.Answer.{state_after}
-use Rattle.patch_packer.specs.declared.Packed.{Packed}
 use Rattle.patch.specs.declared.Patch.{Patch}
 use Rattle.patch.specs.Layout.{Place, later, envelope_field, scaling_field, operator_field, lfo_field, field_of}
 use Rattle.patch.specs.Layout.{envelope_names, scaling_names, operator_names, lfo_names, letters, shared_names, layout}
@@ -86,9 +85,10 @@ unfolding packed
 length_packed p = length_bytes field_of (number_of p) layout 0 128
 
 -- the same of the entries
-pub unpack_of_pack : (p q : Patch) → Shaped p → patch_fits p ≡ true → unpack_of q (pack_of p).bytes ≡ Ok p
+pub unpack_of_pack : (p q : Patch) → Shaped p → patch_fits p ≡ true
+    → (pack_of p ≡ Ok (packed p)) × (unpack_of q (packed p) ≡ Ok p)
 unfolding unpack_of pack_of
-unpack_of_pack p q h e = rw (e, length_packed p, unpacked_of_packed p h e)
+unpack_of_pack p q h e = (rw e, rw (length_packed p, unpacked_of_packed p h e))
 
 module _ (s : List ℕ) where
   -- packing what was unpacked gives the bytes back, if they were clean
@@ -143,25 +143,12 @@ module _ (s : List ℕ) where
       low n q l = omega arith
 
   -- the same of the entries: what was unpacked is packed again, to the same 128 bytes if they were clean and only then
-  packed_again : (p : Patch) → 128 ≤ length s → pack_of (state_after (unpack_of p s)) ≡ record {
-    number =
-        0;
-    bytes = packed (unpacked s);
-  }
+  packed_again : (p : Patch) → 128 ≤ length s → pack_of (state_after (unpack_of p s)) ≡ Ok (packed (unpacked s))
   unfolding pack_of unpack_of
   packed_again p h = rw (le-ltb (length s) 128 h, unpacked_fits s)
 
-  pub pack_of_unpack : (p : Patch) → 128 ≤ length s → Clean s → pack_of (state_after (unpack_of p s)) ≡ record {
-    number =
-        0;
-    bytes = take 128 s;
-  }
-  pack_of_unpack p h c =
-      packed_again p h ∙ ap (λ (b : List ℕ). record { number = 0; bytes = b }) (packed_of_unpacked h c)
+  pub pack_of_unpack : (p : Patch) → 128 ≤ length s → Clean s → pack_of (state_after (unpack_of p s)) ≡ Ok (take 128 s)
+  pack_of_unpack p h c = packed_again p h ∙ ap (λ (b : List ℕ). Ok b) (packed_of_unpacked h c)
 
-  pub clean_of_pack : (p : Patch) → 128 ≤ length s → pack_of (state_after (unpack_of p s)) ≡ record {
-    number =
-        0;
-    bytes = take 128 s;
-  } → Clean s
-  clean_of_pack p h e = clean_of_packed (ap (λ (r : Packed). r.bytes) (sym (packed_again p h) ∙ e))
+  pub clean_of_pack : (p : Patch) → 128 ≤ length s → pack_of (state_after (unpack_of p s)) ≡ Ok (take 128 s) → Clean s
+  clean_of_pack p h e = clean_of_packed (cc (sym (packed_again p h) ∙ e))

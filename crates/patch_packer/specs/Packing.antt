@@ -1,10 +1,11 @@
 -- What packing means, for any table, and the packer over the patch's. To be believed, but for the bytes in two parts;
 -- the entry's contract cites these.
-use Rattle.std.specs.Prelude.{◌≡◌, true, cond, List, [], ◌∷◌, ℕ, zero, suc, ◌+◌, ◌*◌, ◌%◌, ◌^◌, ◌<◌, get_or, replicate}
-use Rattle.std.specs.Prelude.{eqb}
+use Rattle.std.specs.Prelude.{◌≡◌, true, cond, List, [], ◌∷◌, ℕ, zero, suc, ◌+◌, ◌*◌, ◌%◌, ◌^◌, ◌<◌, get_or}
+use Rattle.std.specs.Prelude.{eqb, Result, Ok, Err}
+use Rattle.refusals.specs.declared.Refusal.{Refusal}
+use Rattle.refusals.specs.declared.Refusal.TheVariants as refusal
 use Rattle.patch.specs.declared.Operator.{Operator}
 use Rattle.patch.specs.declared.Patch.{Patch}
-use Rattle.patch_packer.specs.declared.Packed.{Packed}
 use Rattle.patch.specs.Layout.{Field, operator_field, field_of, operator_names, shared_names, layout}
 use Rattle.patch.specs.Form.{operator_number, number_of}
 use Rattle.patch.specs.Packed.{bits_in, within, patch_fits}
@@ -36,10 +37,9 @@ operator_bytes o = bytes_of operator_field (operator_number o) operator_names 0 
 unfoldable pub shared_bytes : Patch → List ℕ
 shared_bytes p = bytes_of field_of (number_of p) shared_names 102 26
 
--- 6 and 128 zeros for a patch that does not fit, else its bytes
-unfoldable pub pack_of : Patch → Packed
-pack_of p = cond (patch_fits p) (record { number = 0; bytes = packed p })
-    (record { number = 6; bytes = replicate 128 0 })
+-- 6 for a patch that does not fit, else its bytes
+unfoldable pub pack_of : Patch → Result (List ℕ) Refusal
+pack_of p = cond (patch_fits p) (Ok (packed p)) (Err refusal.Field)
 
 -- bytes that a packer can have written: already clamped, every field's bits at most its largest number; and free of
 -- unused bits, each of the 128 the sum of its fields' bits and nothing else

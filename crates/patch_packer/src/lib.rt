@@ -3,19 +3,12 @@
 // `patch_limits::check` refuses.
 #![tactic(auto)]
 
-ghost use Rattle.std.specs.Prelude.{◌≡◌, true, ◌≤◌};
-ghost use Rattle.std.proofs.Math.Seq.{paste};
+ghost use Rattle.std.specs.Prelude.{◌≡◌, true};
 ghost use Rattle.patch.specs.Packed.{operator_fits, patch_fits};
 ghost use Rattle.patch_packer.specs.Packing.{operator_bytes, shared_bytes, packed, pack_of};
 
 use patch::{Operator, Patch};
-
-// What packing gives: the number, and the bytes or, refused, zeros.
-#[derive(Clone, Copy)]
-pub struct Packed {
-    pub number: u8,
-    pub bytes: [u8; 128],
-}
+use refusals::Refusal;
 
 // The 17 bytes of an operator that fits, as a table in layout order: its numbers as they are, each lies within its
 // field's bits.
@@ -93,45 +86,22 @@ fn shared_bytes(p: Patch) -> [u8; 26]
     ]
 }
 
-fn put_operator(out: &mut [u8; 128], at: usize, o: Operator)
-    requires { (at ≤ 111) × (operator_fits o ≡ true) }
-    ensures { out.new ≡ paste out.old at (operator_bytes o) 17 }
-{
-    let b = operator_bytes(o);
-    lent_bytes::put(out, at, &b);
-}
-
-fn put_shared(out: &mut [u8; 128], p: Patch)
-    requires { patch_fits p ≡ true }
-    ensures { out.new ≡ paste out.old 102 (shared_bytes p) 26 }
-{
-    let b = shared_bytes(p);
-    lent_bytes::put(out, 102, &b);
-}
-
 fn pack_whole(p: Patch) -> [u8; 128]
     requires { patch_fits p ≡ true }
     ensures { result ≡ packed p }
 {
-    let op = p.op;
     let mut out = [0u8; 128];
-    let mut i = 0usize;
-    while i < 6 {
-        put_operator(&mut out, 17 * i, op[i]);
-        i += 1;
+    for (k, o) in p.op.iter().enumerate() {
+        lent_bytes::put(&mut out, 17 * k, &operator_bytes(*o));
     }
-    put_shared(&mut out, p);
+    lent_bytes::put(&mut out, 102, &shared_bytes(p));
     out
 }
 
-// The 128 bytes of a patch, unused bits clear; 6 and zeros for a patch that does not fit. What fits needs no masks.
-pub fn pack(patch: Patch) -> Packed
+// The 128 bytes of a patch, unused bits clear; 6 for a patch that does not fit. What fits needs no masks.
+pub fn pack(patch: Patch) -> Result<[u8; 128], Refusal>
     ensures { result ≡ pack_of patch }
 {
-    if patch_limits::patch_fits(patch) {
-        let bytes = pack_whole(patch);
-        return Packed { number: 0, bytes };
-    }
-    let bytes = [0u8; 128];
-    Packed { number: 6, bytes }
+    patch_limits::check(patch)?;
+    Ok(pack_whole(patch))
 }

@@ -4,7 +4,8 @@
 // docs/PROGRAMS.md has the lines.
 #![tactic(auto)]
 
-use bank_pieces::{Receiver, Taken};
+use bank_pieces::Receiver;
+use std::array;
 use std::io;
 use std::io::Stdin;
 use streams::{Columns, Streams, Window};
@@ -19,29 +20,32 @@ struct Run {
 
 // The name of a packed patch, its letters as they stand.
 fn name(p: &[u8; 128]) -> [u8; 10] {
-    let mut name = [0; 10];
-    name.copy_from_slice(&p[118..]);
-    name
+    array::from_fn(|k| p[118 + k])
 }
 
-// The line of a patch that is complete.
-fn print_if_complete(to: Streams, t: Taken, patch: &[u8; 128]) -> io::Result<()> {
-    if !t.complete {
+// The line of the patch that is complete, if one is.
+fn print_if_complete(to: Streams, complete: Option<u8>, patch: &[u8; 128]) -> io::Result<()> {
+    let Some(slot) = complete else {
         return Ok(());
-    }
+    };
     let columns = Columns {
-        slot: t.slot as usize,
+        slot: slot as usize,
         name: name(patch),
     };
     streams::print_line(to, b"", format_args!("{columns}provisional"))
 }
 
-// What waits, up to the end of the patch at hand. The reader has not ended, so it takes at least a byte.
+// What waits, up to the end of the patch at hand. The reader has not ended, so it is not refused, and takes at least a
+// byte.
 fn take(to: Streams, buffer: &[u8], patch: &mut [u8; 128], run: &mut Run) -> io::Result<()> {
-    let t = bank_pieces::take(run.receiver, run.window.waiting(buffer), patch);
-    run.window.at = run.window.at.saturating_add(t.taken);
-    run.receiver = t.receiver;
-    print_if_complete(to, t, patch)
+    match bank_pieces::take(run.receiver, run.window.waiting(buffer), patch) {
+        Ok(t) => {
+            run.window.at = run.window.at.saturating_add(t.taken);
+            run.receiver = t.receiver;
+            print_if_complete(to, t.complete, patch)
+        }
+        Err(_) => Ok(()),
+    }
 }
 
 // Whether the dump was sound.

@@ -1,4 +1,3 @@
 -- the definitions that the contracts cite
 pub mod Refusals
-pub mod Table
 pub mod Answer

@@ -49,3 +49,8 @@ pub record Begins (before text after : List ℕ) (answer : ℕ) : Type 0 where
   pub size : answer ≡ length text
   pub fits : answer ≤ 64
   pub buffer : after ≡ sets before 0 text
+
+-- a piece of text written at a place: what the buffer holds afterwards, and the place behind the piece
+pub record Put (before : List ℕ) (at : ℕ) (piece : List ℕ) (after : List ℕ) (next : ℕ) : Type 0 where
+  pub place : next ≡ at + length piece
+  pub buffer : after ≡ sets before at piece

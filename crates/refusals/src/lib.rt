@@ -7,7 +7,7 @@ ghost use Rattle.std.specs.Prelude.{◌≡◌, ◌+◌, ◌≤◌, length};
 ghost use Rattle.refusals.specs.Answer.{number_of, place_of};
 ghost use Rattle.refusals.specs.Refusals.{Begins, decimal, letters, refusal, words_of};
 ghost use Rattle.refusals.specs.Refusals.{digit as Refusals·digit};
-ghost use Rattle.refusals.specs.Table.{Put, row, sentence};
+ghost use Rattle.refusals.specs.Refusals.{Put};
 
 use std::error::Error;
 use std::fmt;
@@ -66,21 +66,30 @@ impl Refusal {
     pub fn words(self) -> &'static str
         ensures { result.now ≡ letters (words_of (number_of self)) }
     {
-        match self {
-            Refusal::ShortPatch => "patch shorter than 128 bytes",
-            Refusal::WrongTable => "wrong number of operators, table, row or slot",
-            Refusal::NoRenderer(_) => "a call has no renderer",
-            Refusal::UnsetBuffer(_) => "a call reads or adds to an unset buffer",
-            Refusal::SampleRate => "sample rate outside 8,000 to 192,000",
-            Refusal::Field => "a field above its largest number",
-            Refusal::Parameter => "a parameter outside its range",
-            Refusal::BlockLength => "block of a wrong length",
-            Refusal::ForeignState => "a state that no call has left",
-            Refusal::WrongLength => "wrong length",
-            Refusal::FrameByte => "wrong frame byte",
-            Refusal::HighByte => "data byte above 127",
-            Refusal::Checksum => "wrong checksum",
-        }
+        sentence(self.number())
+    }
+}
+
+// The words of a number; 0 refuses nothing.
+fn sentence(number: u8) -> &'static str
+    ensures { result.now ≡ letters (words_of number) }
+{
+    match number {
+        0 => "nothing",
+        1 => "patch shorter than 128 bytes",
+        2 => "wrong number of operators, table, row or slot",
+        3 => "a call has no renderer",
+        4 => "a call reads or adds to an unset buffer",
+        5 => "sample rate outside 8,000 to 192,000",
+        6 => "a field above its largest number",
+        7 => "a parameter outside its range",
+        8 => "block of a wrong length",
+        9 => "a state that no call has left",
+        10 => "wrong length",
+        11 => "wrong frame byte",
+        12 => "data byte above 127",
+        13 => "wrong checksum",
+        _ => "no such number",
     }
 }
 
@@ -113,29 +122,20 @@ impl<T: Copy> From<Refused<T>> for Refusal {
 // The bytes that a text takes at most, with room to spare.
 pub const ROOM: usize = 64;
 
-// A row of the table of words.
-const WIDTH: usize = 48;
-
 fn digit(n: u8) -> u8
     ensures { result ≡ Refusals·digit n }
 {
     48 + n % 10
 }
 
-// A piece of text at a place, up to its full stop if it has one; the answer is the place behind it.
+// A piece of text at a place; the answer is the place behind it.
 fn put(out: &mut [u8; ROOM], at: usize, piece: &[u8]) -> usize
     requires { at + length piece.now ≤ 64 }
-    ensures { Put out.old at (sentence piece.now) out.new result }
+    ensures { Put out.old at piece.now out.new result }
 {
-    let mut k = 0usize;
-    while k < piece.len() {
-        if piece[k] == b'.' {
-            return at + k;
-        }
-        out[at + k] = piece[k];
-        k += 1;
-    }
-    at + k
+    let end = at + piece.len();
+    out[at..end].copy_from_slice(piece);
+    end
 }
 
 fn put_number(out: &mut [u8; ROOM], at: usize, n: u8) -> usize
@@ -154,39 +154,12 @@ fn put_number(out: &mut [u8; ROOM], at: usize, n: u8) -> usize
     put(out, at, &[hundreds, tens, ones])
 }
 
-fn put_row(out: &mut [u8; ROOM], at: usize, table: &[u8], number: u8) -> usize
-    requires { at + 48 ≤ 64 }
-    ensures { Put out.old at (row table.now number) out.new result }
-{
-    let start = number as usize * WIDTH;
-    let end = start + WIDTH;
-    if end <= table.len() {
-        return put(out, at, &table[start..end]);
-    }
-    put(out, at, b"no such number")
-}
-
-// The text of a refusal; the answer is its length.
+// The text of a refusal; the answer is its length. Any number has one, also those that refuse nothing.
 pub fn text(number: u8, out: &mut [u8; ROOM]) -> usize
     ensures { Begins out.old (refusal number) out.new result }
 {
     let a = put(out, 0, b"refused ");
     let b = put_number(out, a, number);
     let c = put(out, b, b": ");
-    let table = b"\
-        nothing.                                        \
-        patch shorter than 128 bytes.                   \
-        wrong number of operators, table, row or slot.  \
-        a call has no renderer.                         \
-        a call reads or adds to an unset buffer.        \
-        sample rate outside 8,000 to 192,000.           \
-        a field above its largest number.               \
-        a parameter outside its range.                  \
-        block of a wrong length.                        \
-        a state that no call has left.                  \
-        wrong length.                                   \
-        wrong frame byte.                               \
-        data byte above 127.                            \
-        wrong checksum.                                 ";
-    put_row(out, c, table, number)
+    put(out, c, sentence(number).as_bytes())
 }

@@ -1,14 +1,12 @@
 -- The turn of each operator's last seven numbers, place by place. Assumes nothing.
 use mathlib.Core.Path.{◌≡◌, refl, sym, ◌∙◌, ap}
-use mathlib.Core.Bool.{Bool, true, false}
 use mathlib.Core.List.{List, [], ◌∷◌}
 use Prim.Native.Nat.{ℕ, zero, suc, ◌+◌, ◌-◌, ◌%◌, ◌<◌, ◌≤◌}
 use native.Mathlib.Nat.{add-zero, zero-add}
 use native.Mathlib.Omega.{arith}
-use borrow.Author.Tests.{le-leb, lt-leb, le-ltb, lt-ltb, eqb-true, eqb-false}
-use lib.Dec.{eqb}
-use lib.ListN.{length, get_or, set}
-use lib.Seq.{ext_get_or, get_or-set_same, get_or-set_other}
+use borrow.Author.Tests.{le-leb, lt-leb, le-ltb, lt-ltb}
+use lib.ListN.{length, get_or}
+use lib.Seq.{ext_get_or}
 use Rattle.dump.specs.Dump.{largest_of}
 use Rattle.single.specs.Single.{turned_place, turned_from, turned}
 
@@ -44,17 +42,6 @@ module _ (by : ℕ) (s : List ℕ) where
   -- the first i numbers are there
   abbrev pub TurnedTo : ℕ → List ℕ → Type 0
   TurnedTo i out = (k : ℕ) → k < i → get_or out k 0 ≡ get_or s (turned_place by k) 0
-
-  -- one more
-  pub turned_next : (i : ℕ) (out : List ℕ) (from : ℕ) → i < length out → from ≡ turned_place by i → TurnedTo i out
-      → TurnedTo (i + 1) (set out i (get_or s from 0))
-  turned_next i out from h e t k below = at (eqb k i) refl
-    where
-      at : (b : Bool) → eqb k i ≡ b → get_or (set out i (get_or s from 0)) k 0 ≡ get_or s (turned_place by k) 0
-      at true q = rw (eqb-true k i q, ← e) (get_or-set_same out i (get_or s from 0) 0 h)
-      at false q =
-          let apart = eqb-false k i q in
-          get_or-set_other out i k (get_or s from 0) 0 apart ∙ t k (omega arith)
 
   -- all are
   pub turned_all : (out : List ℕ) → length out ≡ 155 → TurnedTo 155 out → out ≡ turned by s

@@ -2,7 +2,7 @@
 -- the fields, their names and their limits, is `patch`'s table; the frame and the checksum are those of every dump.
 -- Only where a field stands is said here. To be believed, but for the turn of an operator's fields at the end.
 use Rattle.std.specs.Prelude.{Bool, cond, ◌&&◌, List, [], ◌∷◌, ◌++◌, map, ℕ, zero, suc, ◌+◌, ◌-◌, ◌%◌}
-use Rattle.std.specs.Prelude.{get_or, replicate, eqb, leb, ltb, Result, Ok, Err}
+use Rattle.std.specs.Prelude.{get_or, eqb, leb, ltb, Result, Ok, Err}
 use Rattle.std.specs.Result.{result_and}
 use Rattle.refusals.specs.declared.Refusal.{Refusal}
 use Rattle.refusals.specs.declared.Refusal.TheVariants.{Field}
@@ -18,9 +18,8 @@ use Rattle.patch.specs.Positions.{position}
 use Rattle.patch.specs.Packed.{patch_fits, unpack_of}
 use Rattle.patch_packer.specs.Packing.{packed}
 use Rattle.refusals.specs.declared.Refused.{Refused}
-use Rattle.refusals.specs.Answer.{number_of as refusal_number, number_given}
+use Rattle.refusals.specs.Answer.{refused}
 use Rattle.single.specs.declared.Parsed.{Parsed}
-use Rattle.single.specs.declared.Written.{Written}
 use Rattle.single.specs.declared.Repacked.{Repacked}
 
 -- THE FORM: F0 43 0n 00 01 1B, n the channel, 155 data bytes, the checksum, F7
@@ -54,44 +53,40 @@ patch_in bytes = patch_with (λ n. get_or bytes (stand_in single_order n) 0) 63
 unfoldable pub single_fits : Patch → Bool
 single_fits p = patch_fits p && leb p.modulations.pitch_mod_sensitivity lfo_sensitivity
 
--- READING: 10 to 13 for the dump, then 6 for the patch in it; refused, channel 0 and the patch that was handed in
-unfoldable pub read_check : List ℕ → Result (Unit {0}) Refusal
-read_check dump =
+-- READING: 10 to 13 for the dump, then 6 for the patch in it
+unfoldable pub parsed_of : List ℕ → Result Parsed Refusal
+parsed_of dump =
     result_and (dump_check single_form dump)
-    (cond (single_fits (patch_in (data_of single_form dump))) (Ok tt) (Err Field))
+    (cond (single_fits (patch_in (data_of single_form dump)))
+    (Ok (record { channel = channel_byte dump; patch = patch_in (data_of single_form dump) })) (Err Field))
 
-unfoldable pub read_number : List ℕ → ℕ
-read_number dump = number_given (read_check dump)
+-- an answer with a state that is handed back in a refusal
+abbrev pub handing_back : {T S : Type 0} → S → Result T Refusal → Result T (Refused S)
+handing_back state (Ok x) = Ok x
+handing_back state (Err e) = refused e state
 
-unfoldable pub read_of : Patch → List ℕ → Parsed
-read_of p dump =
-    cond (eqb (read_number dump) 0)
-    (record { number = 0; channel = channel_byte dump; patch = patch_in (data_of single_form dump) })
-    (record { number = read_number dump; channel = 0; patch = p })
+unfoldable pub read_of : Patch → List ℕ → Result Parsed (Refused Patch)
+read_of p dump = handing_back p (parsed_of dump)
 
--- WRITING: 6 for a patch that does not fit or a channel above 15; refused, zeros
-unfoldable pub refused_with : ℕ → Written
-refused_with number = record { number = number; bytes = replicate 163 0 }
-
-unfoldable pub write_of : Patch → ℕ → Written
+-- WRITING: 6 for a patch that does not fit or a channel above 15
+unfoldable pub write_of : Patch → ℕ → Result (List ℕ) Refusal
 write_of p channel =
-    cond (single_fits p && leb channel 15)
-    (record { number = 0; bytes = written_of single_form channel (data_bytes p) }) (refused_with 6)
+    cond (single_fits p && leb channel 15) (Ok (written_of single_form channel (data_bytes p))) (Err Field)
 
 -- ACROSS: a packed patch is unpacked, with 1 for a short one, and written; a dump is read, and its patch packed
-abbrev pub write_unpacked : Result Patch (Refused Patch) → ℕ → Written
-write_unpacked (Ok p) channel = write_of p channel
-write_unpacked (Err r) channel = refused_with (refusal_number r.refusal)
+abbrev pub write_unpacked : ℕ → Result Patch (Refused Patch) → Result (List ℕ) Refusal
+write_unpacked channel (Ok p) = write_of p channel
+write_unpacked channel (Err r) = Err r.refusal
 
-unfoldable pub from_packed_of : List ℕ → ℕ → Written
-from_packed_of s channel = write_unpacked (unpack_of zero_patch s) channel
+unfoldable pub from_packed_of : List ℕ → ℕ → Result (List ℕ) Refusal
+from_packed_of s channel = write_unpacked channel (unpack_of zero_patch s)
 
-unfoldable pub to_packed_of : List ℕ → Repacked
-to_packed_of dump = record {
-  number = read_number dump;
-  channel = (read_of zero_patch dump).channel;
-  bytes = cond (eqb (read_number dump) 0) (packed (read_of zero_patch dump).patch) (replicate 128 0);
-}
+abbrev pub repacked : Result Parsed Refusal → Result Repacked Refusal
+repacked (Ok r) = Ok (record { channel = r.channel; bytes = packed r.patch })
+repacked (Err e) = Err e
+
+unfoldable pub to_packed_of : List ℕ → Result Repacked Refusal
+to_packed_of dump = repacked (parsed_of dump)
 
 -- The turn that the code makes between this order and `patch`'s layout order: of each operator's 21 numbers the last
 -- seven move round by some places. The place that the number at place i is taken from

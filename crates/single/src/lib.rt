@@ -7,33 +7,25 @@
 ghost use Rattle.std.specs.Prelude.{◌≡◌, ◌<◌, length};
 ghost use Rattle.dump.specs.Dump.{data_of};
 ghost use Rattle.dump_writer.specs.Written.{written_of};
-ghost use Rattle.single.specs.Single.{single_form, data_bytes, patch_in, single_fits, read_of};
-ghost use Rattle.single.specs.Single.{refused_with, write_of, from_packed_of, to_packed_of, turned_place, turned};
+ghost use Rattle.single.specs.Single.{single_form, data_bytes, patch_in, single_fits, parsed_of, read_of};
+ghost use Rattle.single.specs.Single.{write_of, from_packed_of, to_packed_of, turned_place, turned};
 
 use dump::Form;
 use patch::{Patch, largest};
+use refusals::{Refusal, Refused};
 
 pub const DUMP_SIZE: usize = 163;
 
-// What reading gives: the number, the channel and the patch; refused, 0 and the patch handed in.
+// What reading gives.
 #[derive(Clone, Copy)]
 pub struct Parsed {
-    pub number: u8,
     pub channel: u8,
     pub patch: Patch,
 }
 
-// What writing gives: the number, and the dump or, refused, zeros.
-#[derive(Clone, Copy)]
-pub struct Written {
-    pub number: u8,
-    pub bytes: [u8; 163],
-}
-
-// What a dump's packed form is: the number, the dump's channel and the packed bytes; refused, zeros.
+// What a dump's packed form is: the dump's channel and the packed bytes.
 #[derive(Clone, Copy)]
 pub struct Repacked {
-    pub number: u8,
     pub channel: u8,
     pub bytes: [u8; 128],
 }
@@ -68,11 +60,8 @@ fn turned(by: usize, s: &[u8]) -> [u8; 155]
     ensures { result ≡ turned by s.now }
 {
     let mut out = [0u8; 155];
-    let mut i = 0usize;
-    while i < 155 {
-        let from = turned_place(by, i);
-        out[i] = s[from];
-        i += 1;
+    for (i, number) in out.iter_mut().enumerate() {
+        *number = s[turned_place(by, i)];
     }
     out
 }
@@ -95,31 +84,27 @@ fn patch_in(dump: &[u8]) -> Patch
 }
 
 // The patch in a dump, and its channel.
-pub fn read(patch: Patch, dump: &[u8]) -> Parsed
+fn parse(dump: &[u8]) -> Result<Parsed, Refusal>
+    ensures { result ≡ parsed_of dump.now }
+{
+    let channel = dump::channel(dump, single_form())?;
+    let patch = patch_in(dump);
+    if !fits(patch) {
+        return Err(Refusal::Field);
+    }
+    Ok(Parsed { channel, patch })
+}
+
+// The same; refused, with the patch that was handed in.
+pub fn read(patch: Patch, dump: &[u8]) -> Result<Parsed, Refused<Patch>>
     ensures { result ≡ read_of patch dump.now }
 {
-    let channel = match dump::channel(dump, single_form()) {
-        Ok(channel) => channel,
-        Err(refusal) => {
-            return Parsed {
-                number: refusal.number(),
-                channel: 0,
-                patch,
-            };
-        }
-    };
-    let read = patch_in(dump);
-    if !fits(read) {
-        return Parsed {
-            number: 6,
-            channel: 0,
-            patch,
-        };
-    }
-    Parsed {
-        number: 0,
-        channel,
-        patch: read,
+    match parse(dump) {
+        Ok(parsed) => Ok(parsed),
+        Err(refusal) => Err(Refused {
+            refusal,
+            state: patch,
+        }),
     }
 }
 
@@ -134,54 +119,33 @@ fn write_whole(p: Patch, channel: u8) -> [u8; 163]
     out
 }
 
-// A refusal: its number, and zeros.
-fn refused(number: u8) -> Written
-    ensures { result ≡ refused_with number }
-{
-    let bytes = [0u8; 163];
-    Written { number, bytes }
-}
-
 // A patch as a dump on a channel.
-pub fn write(patch: Patch, channel: u8) -> Written
+pub fn write(patch: Patch, channel: u8) -> Result<[u8; 163], Refusal>
     ensures { result ≡ write_of patch channel }
 {
     if fits(patch) & (channel <= 15) {
-        let bytes = write_whole(patch, channel);
-        return Written { number: 0, bytes };
+        Ok(write_whole(patch, channel))
+    } else {
+        Err(Refusal::Field)
     }
-    refused(6)
 }
 
 // A packed patch as a dump on a channel.
-pub fn from_packed(packed: &[u8], channel: u8) -> Written
+pub fn from_packed(packed: &[u8], channel: u8) -> Result<[u8; 163], Refusal>
     ensures { result ≡ from_packed_of packed.now channel }
 {
-    match patch::unpack(Patch::new(), packed) {
-        Ok(patch) => write(patch, channel),
-        Err(short) => refused(short.refusal.number()),
-    }
+    let patch = patch::unpack(Patch::new(), packed)?;
+    write(patch, channel)
 }
 
 // The packed form of the patch in a dump, and the dump's channel.
-pub fn to_packed(dump: &[u8]) -> Repacked
+pub fn to_packed(dump: &[u8]) -> Result<Repacked, Refusal>
     ensures { result ≡ to_packed_of dump.now }
 {
-    let read = read(Patch::new(), dump);
-    if read.number != 0 {
-        let bytes = [0u8; 128];
-        return Repacked {
-            number: read.number,
-            channel: 0,
-            bytes,
-        };
-    }
-    let patch = read.patch;
-    let packed = patch_packer::pack(patch);
-    let bytes = packed.bytes;
-    Repacked {
-        number: 0,
+    let read = parse(dump)?;
+    let bytes = patch_packer::pack(read.patch)?;
+    Ok(Repacked {
         channel: read.channel,
         bytes,
-    }
+    })
 }

@@ -10,7 +10,7 @@ use lib.ListN.{length, get_or}
 use lib.Ieee.{Float}
 use Rattle.dx_units_step.specs.declared.Mark.TheVariants.{AsAsked}
 use Rattle.dx_units_step.specs.Step.{mark_for}
-use Rattle.voice_levels.specs.Levels.{marked, all_as_asked}
+use Rattle.voice_levels.specs.Levels.{all_as_asked}
 use Rattle.voice.specs.declared.Voice.{Voice}
 use Rattle.voice.specs.Answers.{state_fits}
 use Rattle.voice.proofs.States.{state_fits_lem}
@@ -43,8 +43,8 @@ module _ (pairs high low : List Float) (v : Voice) (p : VoiceParameters) (block 
 
   -- a sounding block
   sounding_mark : (k : ℕ) → T (state_fits v) → (empty : Bool) → eqb n 0 ≡ empty
-      → get_or (marks_for pairs high low v q n) k (marked AsAsked)
-      ≡ marked (cond (empty || leb v.operators k) AsAsked (mark_for (frequency_in high low v p block k)))
+      → get_or (marks_for pairs high low v q n) k AsAsked
+      ≡ cond (empty || leb v.operators k) AsAsked (mark_for (frequency_in high low v p block k))
   unfolding marks_for levels_for frequency_in
   sounding_mark k t true e = rw e (all_as_asked_lem k)
   sounding_mark k t false e = rw e (go (leb v.operators k) refl)
@@ -52,22 +52,21 @@ module _ (pairs high low : List Float) (v : Voice) (p : VoiceParameters) (block 
       few : v.operators ≤ 6
       few = count_at_most_6 v.operators (state_fits_lem v t).count
 
-      go : (b : Bool) → leb v.operators k ≡ b → get_or (levels_for pairs high low v q n).marks k (marked AsAsked)
-          ≡ marked (cond b AsAsked (mark_for (frequency_in high low v p block k)))
+      go : (b : Bool) → leb v.operators k ≡ b → get_or (levels_for pairs high low v q n).marks k AsAsked
+          ≡ cond b AsAsked (mark_for (frequency_in high low v p block k))
       go true l = mark_behind _ _ _ _ _ _ v.operators k (leb-true v.operators k l)
       go false l = let z = leb-false v.operators k l in mark_of _ _ _ _ _ _ v.operators k (omega arith) few
 
   -- every mark of a block
   pub block_mark : (k : ℕ)
-      → get_or (render_answer pairs high low v p block).marks k (marked AsAsked) ≡ marked (mark_in high low v p block k)
+      → get_or (render_answer pairs high low v p block).marks k AsAsked ≡ mark_in high low v p block k
   unfolding render_answer sounded mark_in untold refused
   block_mark k = go (state_fits v) (block_fits (length block)) (parameters_fit_for v p) v.dirty refl refl
     where
       go : (state size fit dirty : Bool) → state_fits v ≡ state → block_fits (length block) ≡ size
-          → get_or (answer_by pairs high low v q block state size fit dirty).marks k (marked AsAsked)
-          ≡ marked
-          (cond (not (state && size && fit) || dirty || eqb (length block) 0 || leb v.operators k) AsAsked
-          (mark_for (frequency_in high low v p block k)))
+          → get_or (answer_by pairs high low v q block state size fit dirty).marks k AsAsked
+          ≡ cond (not (state && size && fit) || dirty || eqb (length block) 0 || leb v.operators k) AsAsked
+          (mark_for (frequency_in high low v p block k))
       go true true true false s z =
           sounding_mark k (subst T (sym s) tt) (eqb (length block) 0) (empty_quarters (length block) z)
       go true true true true s z = all_as_asked_lem k

@@ -3,7 +3,7 @@ use Rattle.std.specs.Prelude.{ℕ, ◌/◌, Bool, cond, not, ◌&&◌, ◌||◌,
 use Rattle.dx_units_step.specs.declared.Mark.{Mark}
 use Rattle.dx_units_step.specs.declared.Mark.TheVariants.{AsAsked}
 use Rattle.dx_units_step.specs.Step.{mark_for}
-use Rattle.voice_levels.specs.Levels.{frequency_of, no_tuned}
+use Rattle.voice_levels.specs.Levels.{frequency_of, no_ratio}
 use Rattle.voice.specs.declared.Voice.{Voice}
 use Rattle.voice.specs.Answers.{state_fits}
 use Rattle.voice_render.specs.declared.VoiceParameters.{VoiceParameters}
@@ -23,7 +23,7 @@ module _ (high low : List Float) (v : Voice) (p : VoiceParameters) (block : List
   unfoldable pub frequency_in : ℕ → Float
   frequency_in k =
       let scene = (begun high low v (played_by v p) (length block / 4)).scene in
-      frequency_of scene (get_or v.ratios k no_tuned)
+      frequency_of scene (get_or v.ratios k no_ratio)
 
   -- the mark that a block has for operator k: its frequency's. The two that a voice of four lacks are as asked
   unfoldable pub mark_in : ℕ → Mark

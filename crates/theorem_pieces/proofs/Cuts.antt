@@ -20,11 +20,12 @@ use Rattle.bank.specs.Bank.{bank_form, slot_of, part_of, validate_of, channel_of
 use Rattle.dump.proofs.Numbers.{is_short, sound}
 use Rattle.bank.proofs.Parts.{part_of_sound}
 use Rattle.bank_pieces.specs.declared.Receiver.{Receiver}
-use Rattle.bank_pieces.specs.Pieces.{Held, Took, possible, counting, missing, completes, takes, took, take_of}
+use Rattle.bank_pieces.specs.Pieces.{Held, Answered, possible, counting, missing, completes, takes, took}
+use Rattle.bank_pieces.specs.Pieces.{accepted, take_of}
 use Rattle.bank_pieces.specs.Pieces.{closing, closed, end_of, frame_with, is_right}
 use Rattle.theorem_pieces.specs.Cuts.{Line, begun, told, called, called_all, giving, given, given_all}
 use Rattle.theorem_pieces.specs.Cuts.{together, run_count, runs_below, runs_of, parts_below, Agrees}
-use Rattle.theorem_pieces.specs.Cuts.{told_at_end, after_end}
+use Rattle.theorem_pieces.specs.Cuts.{taken_by, told_at_end, after_end}
 use Rattle.theorem_pieces.proofs.Frames.{frame_from, frame_right, frame_channel}
 use Rattle.theorem_pieces.proofs.Sums.{sum_low, sum_right}
 use Rattle.theorem_pieces.proofs.Known.{Known, known_first, sum_behind, sum_none}
@@ -103,14 +104,14 @@ module _ (l : Line) (piece : List ℕ) where
   count = l.receiver.count
 
   -- what the call answers, and how many bytes it took
-  abbrev answer : Took
+  abbrev answer : Answered
   answer = take_of l.receiver piece l.patch
 
   abbrev taken : ℕ
-  taken = answer.taken.taken
+  taken = taken_by answer.answer
 
   -- it reports what its bytes report one by one
-  tells_so : told (took l.receiver piece l.patch) ≡ reports (held l) (take (takes count (length piece)) piece)
+  tells_so : told (accepted (took l.receiver piece l.patch)) ≡ reports (held l) (take (takes count (length piece)) piece)
   unfolding told took takes completes
   tells_so = elim (dec_lt count 4102) [
     | no e ↦ rw (le-ltb count 4102 (omega arith)) (sym (reports_rest (held l) _ (omega arith)))
@@ -126,21 +127,21 @@ module _ (l : Line) (piece : List ℕ) where
 
   module _ (t : Told l) where
     -- it is not refused
-    accepted : answer ≡ took l.receiver piece l.patch
+    not_refused : answer ≡ accepted (took l.receiver piece l.patch)
     unfolding take_of
-    accepted = rw (known_possible l.bytes (held l) t.known)
+    not_refused = rw (known_possible l.bytes (held l) t.known)
 
     -- it takes as many bytes as it says
     pub takes_is : taken ≡ takes count (length piece)
     unfolding took
-    takes_is = ap (λ (k : Took). k.taken.taken) accepted
+    takes_is = ap (λ (k : Answered). taken_by k.answer) not_refused
 
     -- and afterwards as much is known
     pub called_told : Told (called l piece)
     unfolding called took
     called_told =
         let next = known_all l.bytes (held l) (take (takes count (length piece)) piece) t.known in
-        rw accepted (record { known = next.0; tells = rw (t.tells, tells_so) next.1 })
+        rw not_refused (record { known = next.0; tells = rw (t.tells, tells_so) next.1 })
 
     -- what is left is shorter
     left_shorter : (turns : ℕ) → length piece < suc turns → (taken ≡ length piece → ⊥)
@@ -295,7 +296,7 @@ sound_parts patch w pieces z =
 -- A FINISHED READER stays as it is: it answers every piece by 9
 pub ended_piece : (r : Receiver) (piece patch : List ℕ) → r.ended ≡ true
     → take_of r piece patch
-    ≡ record { taken = record { number = 9; receiver = r; taken = 0; complete = false; slot = 0 }; patch = patch }
+    ≡ record { answer = refused ForeignState r; patch = patch }
 unfolding take_of possible
 ended_piece r piece patch e = rw e
 

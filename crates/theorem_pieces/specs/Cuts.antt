@@ -1,14 +1,15 @@
 -- A bank that comes in a list of pieces, rests given again, and the reports that must come of it. Definitions only, all
 -- to be believed.
 use Rattle.std.specs.Prelude.{◌≡◌, cond, List, [], ◌∷◌, ◌++◌, ℕ, zero, suc, ◌-◌, ◌/◌, min, length, take, drop, eqb}
-use Rattle.std.specs.Prelude.{Result, Ok, Err}
+use Rattle.std.specs.Prelude.{Result, Ok, Err, Option, None, Some}
 use Rattle.std.specs.Result.{result_map_both, result_unwrap_or}
 use Rattle.refusals.specs.declared.Refusal.{Refusal}
 use Rattle.refusals.specs.declared.Refused.{Refused}
 use Rattle.bank.specs.Bank.{slot_of, part_of, channel_of}
 use Rattle.bank_pieces.specs.declared.Receiver.{Receiver}
+use Rattle.bank_pieces.specs.declared.Taken.{Taken}
 use Rattle.bank_pieces.specs.declared.Ended.{Ended}
-use Rattle.bank_pieces.specs.Pieces.{fresh, Took, take_of, end_of}
+use Rattle.bank_pieces.specs.Pieces.{fresh, Answered, take_of, end_of}
 
 -- a reported patch: its slot and its bytes
 pub record Report : Type 0 where
@@ -26,17 +27,34 @@ pub record Line : Type 0 where
 abbrev pub begun : List ℕ → Line
 begun patch = record { receiver = fresh; patch = patch; reports = []; bytes = [] }
 
+-- the reader behind a call, how many bytes it took, and the slot of the patch that they end
+abbrev pub after : Result Taken (Refused Receiver) → Receiver
+after (Ok t) = t.receiver
+after (Err e) = e.state
+
+abbrev pub taken_by : Result Taken (Refused Receiver) → ℕ
+taken_by (Ok t) = t.taken
+taken_by (Err e) = 0
+
+abbrev pub slot_told : Result Taken (Refused Receiver) → Option ℕ
+slot_told (Ok t) = t.complete
+slot_told (Err e) = None
+
 -- what a call reports: the patch in the lent buffer, if one is complete
-unfoldable pub told : Took → List Report
-told t = cond t.taken.complete (record { slot = t.taken.slot; bytes = t.patch } ∷ []) []
+abbrev pub report_of : Option ℕ → List ℕ → List Report
+report_of (Some slot) patch = record { slot = slot; bytes = patch } ∷ []
+report_of None patch = []
+
+unfoldable pub told : Answered → List Report
+told a = report_of (slot_told a.answer) a.patch
 
 -- ONE CALL
 unfoldable pub called : Line → List ℕ → Line
 called l piece = record {
-  receiver = (take_of l.receiver piece l.patch).taken.receiver;
+  receiver = after (take_of l.receiver piece l.patch).answer;
   patch = (take_of l.receiver piece l.patch).patch;
   reports = l.reports ++ told (take_of l.receiver piece l.patch);
-  bytes = l.bytes ++ take (take_of l.receiver piece l.patch).taken.taken piece;
+  bytes = l.bytes ++ take (taken_by (take_of l.receiver piece l.patch).answer) piece;
 }
 
 -- any calls, one after the other
@@ -48,8 +66,8 @@ called_all l (piece ∷ pieces) = called_all (called l piece) pieces
 unfoldable pub giving : ℕ → Line → List ℕ → Line
 giving zero l piece = l
 giving (suc turns) l piece =
-    cond (eqb (take_of l.receiver piece l.patch).taken.taken (length piece)) (called l piece)
-    (giving turns (called l piece) (drop (take_of l.receiver piece l.patch).taken.taken piece))
+    cond (eqb (taken_by (take_of l.receiver piece l.patch).answer) (length piece)) (called l piece)
+    (giving turns (called l piece) (drop (taken_by (take_of l.receiver piece l.patch).answer) piece))
 
 -- a turn more than the piece has bytes is enough, since each call takes one at least
 unfoldable pub given : Line → List ℕ → Line

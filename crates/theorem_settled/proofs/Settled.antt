@@ -40,7 +40,7 @@ use Rattle.bank.specs.contracts.Reader.channel as bank-reader-channel
 use Rattle.bank_pieces.specs.contracts.open as pieces-open
 use Rattle.bank_pieces.specs.contracts.end as Pieces-end
 use Rattle.bank_pieces.specs.contracts.take as pieces-take
-use Rattle.bank_pieces.specs.Pieces.{Took}
+use Rattle.bank_pieces.specs.Pieces.{Answered as PieceAnswered}
 use Rattle.single.specs.contracts.read as single-read
 use Rattle.single.specs.contracts.write as single-write
 use Rattle.single.specs.contracts.from_packed as single-from-packed
@@ -357,8 +357,8 @@ module _ {M : Type 1} {𝓤 : Ura M} (𝓛 : Logic 𝓤) (mem : Memory → SProp
   -- a piece: the answer, and the whole buffer
   pub pieces_take_settled : Settled 𝓤 pieces-take.ended (pieces-take.clauses 𝓛 mem run)
   pieces_take_settled κs a g z y ws vs = both 𝓤 _ _ _ (λ p q. let e = p ∙ sym q in (
-    ap (λ (x : Took). x.taken) e,
-    ap (λ (x : Took). (tt, (tt, (x.patch, tt)))) e,
+    ap (λ (x : PieceAnswered). x.answer) e,
+    ap (λ (x : PieceAnswered). (tt, (tt, (x.patch, tt)))) e,
   ))
 
   -- a block: the answer, and the whole block

@@ -1,6 +1,7 @@
 -- A voice's state: fresh, with a patch and without one, after voice.rs. Definitions only.
 use Rattle.std.specs.Prelude.{ℕ, Bool, true, false, List, [], ◌∷◌, Float}
 use Rattle.numbers.specs.F32.{◌⊗◌, ◌⊘◌, decimal}
+use Rattle.dx_units_inner.specs.declared.Ratio.{Ratio}
 use Rattle.dx_units_inner.specs.declared.Ratio.TheVariants.{Note}
 use Rattle.patch.specs.declared.Patch.{Patch}
 use Rattle.patch.specs.Form.{zero_patch}
@@ -12,7 +13,6 @@ use Rattle.envelope_inner.specs.Envelope.{initialised}
 use Rattle.operator.specs.declared.Operator.{Operator}
 use Rattle.operator.specs.declared.Feedback.{Feedback}
 use Rattle.operator.specs.Sample.{still}
-use Rattle.voice_setup.specs.declared.Tuned.{Tuned}
 use Rattle.voice.specs.declared.Voice.{Voice}
 
 -- six times the same
@@ -35,7 +35,7 @@ voice_with operators sample_rate one_hz a0 =
       pitch_envelope = e;
       normalized_velocity = decimal 10 0;
       note = decimal 48 0;
-      ratios = six_of (record { ratio = Note (decimal 0 0) });
+      ratios = six_of (Note (decimal 0 0));
       level_headroom = six_of (decimal 0 0);
       feedback_state = record { previous_0 = decimal 0 0; previous_1 = decimal 0 0 };
       has_patch = false;
@@ -69,7 +69,7 @@ pub record Moving : Type 0 where
 
 -- what is set up of a patch besides its envelopes
 pub record Tunings : Type 0 where
-  pub ratios : List Tuned
+  pub ratios : List Ratio
   pub headroom : List Float
 
 -- a patch, its row and its plan, or none

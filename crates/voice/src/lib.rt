@@ -16,7 +16,6 @@ use envelope_inner::Envelope;
 use operator::{Feedback, Operator};
 use patch::Patch;
 use refusals::Refusal;
-use voice_setup::Tuned;
 
 #[derive(Clone, Copy)]
 pub struct Voice {
@@ -30,7 +29,7 @@ pub struct Voice {
     pub pitch_envelope: Envelope,
     pub normalized_velocity: f32,
     pub note: f32,
-    pub ratios: [Tuned; 6],
+    pub ratios: [Ratio; 6],
     pub level_headroom: [f32; 6],
     pub feedback_state: Feedback,
     pub has_patch: bool,
@@ -72,9 +71,7 @@ fn voice_with(operators: usize, sample_rate: f32, one_hz: f32, a0: f32) -> Voice
     // Envelope increments are written for 44,100 Hz, whatever the rate: the older instrument's.
     let e = envelope_inner::init(44100.0 * one_hz);
     let o = Operator::new();
-    let t = Tuned {
-        ratio: Ratio::Note(0.0),
-    };
+    let r = Ratio::Note(0.0);
     let patch = Patch::new();
     let plan = algorithms::no_plan();
     let feedback_state = Feedback {
@@ -92,7 +89,7 @@ fn voice_with(operators: usize, sample_rate: f32, one_hz: f32, a0: f32) -> Voice
         pitch_envelope: e,
         normalized_velocity: 10.0,
         note: 48.0,
-        ratios: [t, t, t, t, t, t],
+        ratios: [r, r, r, r, r, r],
         level_headroom: [0.0, 0.0, 0.0, 0.0, 0.0, 0.0],
         feedback_state,
         has_patch: false,

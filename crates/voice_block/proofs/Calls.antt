@@ -8,20 +8,19 @@ use mathlib.Core.List.{List, []}
 use mathlib.Core.Logic.{◌⊎◌, inl, inr}
 use mathlib.Core.Bool.{true, ◌||◌}
 use lib.Dec.{eqb}
-use lib.ListN.{length, get_or, set, take, drop}
+use lib.ListN.{length, get_or, take, drop}
 use lib.Ieee.{Float}
 use borrow.Rule.Slice.PartMut.{put_mid}
 use Rattle.algorithms.specs.Plan.{reading}
 use Rattle.algorithms.specs.declared.Call.{Call}
 use Rattle.algorithms.specs.declared.Plan.{Plan}
+use Rattle.operator.specs.Sample.{ramp_scale, feedback_scale_of}
 use Rattle.operator.specs.Chain.{Source, Chain, Rendered}
 use Rattle.operator.specs.Chain.Source.{none, external, feedback}
 use Rattle.voice_block.specs.Quarters.{split, joined, Quartered}
 use Rattle.voice_block.specs.Calls.{Setting, chain_at, settled, source_of, Desk, desk, called, called_up_to, setting}
 use Rattle.voice_block.specs.Calls.{ran, Callable}
-use Rattle.voice_block.specs.State.{setting_of, source_at, Played}
 use Rattle.voice_block.specs.declared.Operators.{Operators}
-use Rattle.voice_block.specs.declared.Pace.{Pace}
 use Rattle.voice_block.proofs.Quarters.{read_at, write_at, joined_split}
 
 -- ---- what modulates a call
@@ -63,44 +62,31 @@ chain_within c n h e = rw (← e) h.within
 
 -- ---- a call
 
--- the part of the output starts at a; `new` is rendered there, and the chain s ends as e
-module _ (pairs : List Float) (pace : Pace) (c : Call) (a : ℕ) (block new : List Float) (source : Source)
-    (s e : Chain) where
-  pub played_law : c.output < 4 → length block ≡ 4 * pace.samples → a ≡ c.output * pace.samples
-      → source ≡ source_at pace c block
-      → length new ≡ length (take (a + pace.samples - a) (drop a block))
-      → Rendered pairs source c.add s (take (a + pace.samples - a) (drop a block)) e new
-      → Played pairs pace c s block e (put_mid a (a + pace.samples - a) block new)
-  played_law ho w ea eu f x =
-      let n = pace.samples in
-      let there = read_at n c.output a block ho w ea in
-      let put = write_at n c.output a block ho w ea new f in
-      let samples = rw (there, eu) at x.samples in
-      record {
-        quarters = put ∙ ap (set (split n 4 block) c.output) samples;
-        chain = rw (there, eu) at x.chain;
-      }
-
-  -- two or three operators
-  pub played_fed : Callable c × Quartered pace.samples block × (c.input ≡ 3)
-      → source ≡ feedback pace.feedback_scale → a ≡ c.output * pace.samples
-      → length new ≡ length (take (a + pace.samples - a) (drop a block))
-      → Rendered pairs source c.add s (take (a + pace.samples - a) (drop a block)) e new
-      → Played pairs pace c s block e (put_mid a (a + pace.samples - a) block new)
-  played_fed h eu ea f x =
-      let fed = source_feedback pace.feedback_scale c (split pace.samples 4 block) h.2 in
-      played_law h.0.output h.1.whole ea (eu ∙ fed) f x
-
--- the chain s is taken out, ends as e, and is put back
-pub call_law : (pairs : List Float) (steps : List ℕ) (targets : List Float) (pace : Pace) (c : Call) (v r : Operators)
-    (s e : Chain) (block block' : List Float)
-    → s ≡ chain_at (setting_of steps targets pace) v c.first c.n → Played pairs pace c s block e block'
-    → r ≡ settled v c.first e
-    → desk pace.samples r block' ≡ called pairs (setting_of steps targets pace) c (desk pace.samples v block)
-unfolding called setting_of
-call_law pairs steps targets pace c v r s e block block' es x er = rw (er, x.quarters, x.chain, es)
+-- the call c renders a chain of m operators, from s to e, into the part of the output that starts at a, where `new`
+-- stands then, and puts it back
+module _ (pairs : List Float) (g : Setting) (n : ℕ) (c : Call) (a m : ℕ) (v r : Operators) (block new : List Float)
+    (source : Source) (s e : Chain) where
+  pub call_law : Callable c → Quartered n block → c.n ≡ m → a ≡ c.output * n
+      → source ≡ source_of g.feedback_scale c (split n 4 block)
+      → length new ≡ length (take (a + n - a) (drop a block)) → s ≡ chain_at g v c.first m
+      → Rendered pairs source c.add s (take (a + n - a) (drop a block)) e new → r ≡ settled v c.first e
+      → desk n r (put_mid a (a + n - a) block new) ≡ called pairs g c (desk n v block)
+  unfolding called
+  call_law h w em ea eu f es x er =
+      let there = read_at n c.output a block h.output w.whole ea in
+      let put = write_at n c.output a block h.output w.whole ea new f in
+      let samples = rw (there, eu, es, ← em) at x.samples in
+      let chain = rw (there, eu, es, ← em) at x.chain in
+      rw (er, put, samples, chain)
 
 -- ---- a plan
+
+-- the setting of its parts
+pub settings : (steps : List ℕ) (targets : List Float) (amount n : ℕ) (ramp scale : Float)
+    → ramp ≡ ramp_scale n → scale ≡ feedback_scale_of amount
+    → record { steps = steps; targets = targets; ramp = ramp; feedback_scale = scale } ≡ setting steps targets amount n
+unfolding setting
+settings steps targets amount n ramp scale x y = rw (x, y)
 
 -- the desk after the calls is the whole answer
 pub ran_law : (pairs : List Float) (plan : Plan) (steps : List ℕ) (targets : List Float) (amount : ℕ) (v : Operators)

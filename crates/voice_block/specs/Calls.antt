@@ -12,6 +12,7 @@ use Rattle.operator.specs.Chain.Source.{none, external, feedback}
 use Rattle.operator.specs.declared.Operator.{Operator}
 use Rattle.operator.specs.declared.Lane.{Lane}
 use Rattle.voice_block.specs.Quarters.{split, joined}
+use Rattle.voice_block.specs.declared.Lent.{Lent}
 use Rattle.voice_block.specs.declared.Operators.{Operators}
 
 -- ---- a call's operators
@@ -93,6 +94,15 @@ setting steps targets amount n = record {
   targets = targets;
   ramp = ramp_scale n;
   feedback_scale = feedback_scale_of amount;
+}
+
+-- what the code lends to a block's calls
+abbrev pub setting_of : Lent → Setting
+setting_of l = record {
+  steps = l.steps.now;
+  targets = l.targets.now;
+  ramp = l.ramp;
+  feedback_scale = l.feedback_scale;
 }
 
 -- the operators, the feedback and all four quarters after a plan, for these steps, targets and amount of feedback

@@ -1,4 +1,3 @@
 -- the definitions that the contracts cite
 pub mod Quarters
 pub mod Calls
-pub mod State

@@ -14,14 +14,14 @@ use Rattle.envelope_inner.specs.declared.Envelope.{Envelope}
 use Rattle.envelope_inner.specs.Envelope.{standing}
 use Rattle.patch.specs.declared.Operator.{Operator}
 use Rattle.patch.specs.Form.{operator_at}
-use Rattle.voice_setup.specs.declared.Tuned.{Tuned}
+use Rattle.dx_units_inner.specs.declared.Ratio.{Ratio}
 use Rattle.voice_setup.specs.Setup.{envelope_at}
 use Rattle.voice_levels.specs.declared.Followed.{Followed}
 use Rattle.voice_levels.specs.declared.Placed.{Placed}
 use Rattle.voice_levels.specs.declared.Scene.{Scene}
 use Rattle.voice_levels.specs.declared.Raised.{Raised}
 use Rattle.voice_levels.specs.declared.Levels.{Levels}
-use Rattle.voice_levels.specs.Levels.{followed, taken, frequency_of, scaling_of, amplitude_of, put_at, no_tuned}
+use Rattle.voice_levels.specs.Levels.{followed, taken, frequency_of, scaling_of, amplitude_of, put_at, no_ratio}
 use Rattle.voice_levels.specs.Levels.{raised, raised_by, raised_to, amplitudes_to}
 
 pub raised_of : (g : Scene) (o : Operator) (headroom : Float) (opcode : ℕ) (e : Envelope) {scale s : Float} {p : Placed}
@@ -37,10 +37,10 @@ raised_of g o headroom opcode e {s = s} ec ep es = ap (λ (f : Followed). raised
     raised_by_lem f = record { envelope = f.envelope; value = f.value ⊕ s }
 
 -- one operator more
-pub raised_next : (g : Scene) (ops : List Operator) (ratios : List Tuned) (headrooms : List Float) (row : List ℕ)
+pub raised_next : (g : Scene) (ops : List Operator) (ratios : List Ratio) (headrooms : List Float) (row : List ℕ)
     (es : List Envelope) (k : ℕ) {l : Levels} {hz : Float} {s : Stepped} {r : Raised} {e : Envelope}
     → l ≡ raised_to g ops ratios headrooms row es k
-    → hz ≡ frequency_of g (get_or ratios k no_tuned)
+    → hz ≡ frequency_of g (get_or ratios k no_ratio)
     → s ≡ stepped_for hz
     → raised_by (envelope_at es k) r
     ≡ raised g (operator_at ops k) (get_or headrooms k nan) (get_or row k 0) (envelope_at es k)

@@ -9,11 +9,11 @@ use lib.Ieee.{Float, nan}
 use Rattle.envelope_inner.specs.declared.Envelope.{Envelope}
 use Rattle.patch.specs.declared.Operator.{Operator}
 use Rattle.patch.specs.Form.{operator_at}
-use Rattle.voice_setup.specs.declared.Tuned.{Tuned}
+use Rattle.dx_units_inner.specs.declared.Ratio.{Ratio}
 use Rattle.voice_setup.specs.Setup.{envelope_at}
 use Rattle.voice_levels.specs.declared.Scene.{Scene}
 use Rattle.voice_levels.specs.declared.Levels.{Levels}
-use Rattle.voice_levels.specs.Levels.{amplitude_of, leveled, put_at, no_tuned, leveled_to, raised, raised_to}
+use Rattle.voice_levels.specs.Levels.{amplitude_of, leveled, put_at, no_ratio, leveled_to, raised, raised_to}
 use Rattle.voice_levels.specs.Levels.{amplitudes_to}
 
 module _ (f : Float → Float) where
@@ -63,7 +63,7 @@ with_amplitudes l amplitudes = record {
   amplitudes = amplitudes;
 }
 
-module _ (g : Scene) (ops : List Operator) (ratios : List Tuned) (headrooms : List Float) (row : List ℕ)
+module _ (g : Scene) (ops : List Operator) (ratios : List Ratio) (headrooms : List Float) (row : List ℕ)
     (es : List Envelope) where
   abbrev to : ℕ → Levels
   to = raised_to g ops ratios headrooms row es
@@ -75,7 +75,7 @@ module _ (g : Scene) (ops : List Operator) (ratios : List Tuned) (headrooms : Li
   sounded_raised zero = refl
   sounded_raised (suc n) =
       let o = operator_at ops n in
-      let one = leveled g o (get_or ratios n no_tuned) (get_or headrooms n nan) (get_or row n 0) (envelope_at es n) in
+      let one = leveled g o (get_or ratios n no_ratio) (get_or headrooms n nan) (get_or row n 0) (envelope_at es n) in
       let level = (raised g o (get_or headrooms n nan) (get_or row n 0) (envelope_at es n)).value in
       ap (with_amplitudes (to (suc n))) (sounded_last g ops n level (to n).amplitudes)
       ∙ ap (put_at n one) (sounded_raised n)

@@ -9,7 +9,6 @@ use Rattle.units.specs.Ratio.{ratio_of}
 use Rattle.dx_units_power.specs.Pow.{pow2_fast}
 use Rattle.dx_units_step.specs.declared.Mark.{Mark}
 use Rattle.dx_units_step.specs.declared.Mark.TheVariants.{AsAsked}
-use Rattle.dx_units_step.specs.declared.Marked.{Marked}
 use Rattle.dx_units_step.specs.declared.Stepped.{Stepped}
 use Rattle.dx_units_step.specs.Step.{step_for, mark_for, stepped_for}
 use Rattle.dx_units_inner.specs.Units.{rate_scaling_of, keyboard_scaling_of, amp_mod_sensitivity_of}
@@ -21,7 +20,6 @@ use Rattle.envelope_inner.specs.Scrub.{scrubbed}
 use Rattle.patch.specs.declared.Operator.{Operator}
 use Rattle.patch.specs.Form.{operator_at}
 use Rattle.algorithms.specs.Opcode.{modulating}
-use Rattle.voice_setup.specs.declared.Tuned.{Tuned}
 use Rattle.voice_setup.specs.Setup.{envelope_at}
 use Rattle.voice_levels.specs.declared.Timing.{Timing}
 use Rattle.voice_levels.specs.declared.Followed.{Followed}
@@ -69,8 +67,8 @@ unfoldable pub frequency_by : Float → Float → Ratio → Float
 frequency_by f0 one_hz (Note r) = r ⊗ f0
 frequency_by f0 one_hz (Hertz r) = r ⊗ one_hz
 
-abbrev pub frequency_of : Scene → Tuned → Float
-frequency_of g t = frequency_by g.f0 g.one_hz t.ratio
+abbrev pub frequency_of : Scene → Ratio → Float
+frequency_of g r = frequency_by g.f0 g.one_hz r
 
 -- ---- levels
 
@@ -109,37 +107,33 @@ pub record Leveled : Type 0 where
   pub mark : Mark
   pub amplitude : Float
 
-unfoldable pub leveled : Scene → Operator → Tuned → Float → ℕ → Envelope → Leveled
-leveled g o tuned headroom opcode e =
+unfoldable pub leveled : Scene → Operator → Ratio → Float → ℕ → Envelope → Leveled
+leveled g o ratio headroom opcode e =
     let rate = g.timing.envelope_rate ⊗ rate_scaling_of g.note o.rate_scaling in
     let f = followed g.timing true rate e in
     record {
       envelope = f.envelope;
-      step = step_for (frequency_of g tuned);
-      mark = mark_for (frequency_of g tuned);
+      step = step_for (frequency_of g ratio);
+      mark = mark_for (frequency_of g ratio);
       amplitude = amplitude_of g.amp_mod o.amp_mod_sensitivity (f.value ⊕ scaling_of g o headroom opcode);
     }
 
--- a mark as an element of an array
-abbrev pub marked : Mark → Marked
-marked m = record { mark = m }
-
 -- the marks of six operators whose pitches are all as asked
-unfoldable pub all_as_asked : List Marked
-all_as_asked = replicate 6 (marked AsAsked)
+unfoldable pub all_as_asked : List Mark
+all_as_asked = replicate 6 AsAsked
 
 -- operator i put in its place
 unfoldable pub put_at : ℕ → Leveled → Levels → Levels
 put_at i one l = record {
   operator_envelope = set l.operator_envelope i one.envelope;
   steps = set l.steps i one.step;
-  marks = set l.marks i (marked one.mark);
+  marks = set l.marks i one.mark;
   amplitudes = set l.amplitudes i one.amplitude;
 }
 
 -- what stands past the last ratio: nothing asks for it
-abbrev pub no_tuned : Tuned
-no_tuned = record { ratio = Note nan }
+abbrev pub no_ratio : Ratio
+no_ratio = Note nan
 
 -- no operator yet: envelopes as they are, steps and amplitudes 0, pitches as asked
 abbrev pub unleveled : List Envelope → Levels
@@ -152,13 +146,13 @@ unleveled es = record {
 
 -- the first operators, in order
 module _
-    (g : Scene) (ops : List Operator) (ratios : List Tuned) (headrooms : List Float) (row : List ℕ) (es : List Envelope)
+    (g : Scene) (ops : List Operator) (ratios : List Ratio) (headrooms : List Float) (row : List ℕ) (es : List Envelope)
   where
     unfoldable pub leveled_to : ℕ → Levels
     leveled_to zero = unleveled es
     leveled_to (suc k) =
         let one =
-        leveled g (operator_at ops k) (get_or ratios k no_tuned) (get_or headrooms k nan) (get_or row k 0)
+        leveled g (operator_at ops k) (get_or ratios k no_ratio) (get_or headrooms k nan) (get_or row k 0)
         (envelope_at es k)
         in
         put_at k one (leveled_to k)
@@ -181,7 +175,7 @@ abbrev pub stepped_with : Stepped → Followed → Leveled
 stepped_with s f = record { envelope = f.envelope; step = s.step; mark = s.mark; amplitude = f.value }
 
 module _
-    (g : Scene) (ops : List Operator) (ratios : List Tuned) (headrooms : List Float) (row : List ℕ) (es : List Envelope)
+    (g : Scene) (ops : List Operator) (ratios : List Ratio) (headrooms : List Float) (row : List ℕ) (es : List Envelope)
   where
     unfoldable pub raised_to : ℕ → Levels
     raised_to zero = unleveled es
@@ -189,7 +183,7 @@ module _
         let one =
         raised g (operator_at ops k) (get_or headrooms k nan) (get_or row k 0) (envelope_at es k)
         in
-        put_at k (stepped_with (stepped_for (frequency_of g (get_or ratios k no_tuned))) one) (raised_to k)
+        put_at k (stepped_with (stepped_for (frequency_of g (get_or ratios k no_ratio))) one) (raised_to k)
 
 -- then the amplitudes of the first levels
 module _ (g : Scene) (ops : List Operator) where

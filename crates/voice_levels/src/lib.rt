@@ -11,9 +11,8 @@ ghost use Rattle.voice_levels.specs.Levels.{brightness_of, taken, raised, raised
 ghost use Rattle.voice_levels.specs.Levels.{all_as_asked, leveled_to};
 
 use dx_units_inner::Ratio;
-use dx_units_step::{Mark, Marked};
+use dx_units_step::Mark;
 use envelope_inner::{Envelope, Position};
-use voice_setup::Tuned;
 
 // What is left of a level where there is no amplitude modulation: 1 less the power of -6.4.
 const LEVEL_MOD_AT_REST: f32 = 0.9881440401;
@@ -68,7 +67,7 @@ pub struct Raised {
 pub struct Levels {
     pub operator_envelope: [Envelope; 6],
     pub steps: [u32; 6],
-    pub marks: [Marked; 6],
+    pub marks: [Mark; 6],
     pub amplitudes: [f32; 6],
 }
 
@@ -157,35 +156,6 @@ fn brightness_of(brightness: f32, opcode: u8) -> f32
     0.0
 }
 
-// An operator's frequency in turns a sample.
-fn frequency(g: Scene, tuned: Tuned) -> f32
-    ensures { result ≡ frequency_of g tuned }
-{
-    let ratio = tuned.ratio;
-    match ratio {
-        Ratio::Note(r) => r * g.f0,
-        Ratio::Hertz(r) => r * g.one_hz,
-    }
-}
-
-// What the keyboard, the velocity and the brightness add to a level: at most the headroom.
-fn scaling(g: Scene, op: patch::Operator, level_headroom: f32, opcode: u8) -> f32
-    ensures { result ≡ scaling_of g op level_headroom opcode }
-{
-    let k = op.keyboard_scaling;
-    let kb_scaling = dx_units_inner::keyboard_scaling(
-        g.note,
-        k.left_depth,
-        k.right_depth,
-        k.left_curve,
-        k.right_curve,
-        k.break_point,
-    );
-    let velocity_scaling = g.normalized_velocity * op.velocity_sensitivity as f32;
-    let brightness = brightness_of(g.brightness, opcode);
-    0.125 * numbers::f32_min(kb_scaling + velocity_scaling + brightness, level_headroom)
-}
-
 // What the amplitude modulation leaves of a level; at rest it is a constant.
 fn level_mod(log_level_mod: f32) -> f32
     ensures { result ≡ level_mod_of log_level_mod }
@@ -206,89 +176,108 @@ fn amplitude(amp_mod: f32, sensitivity: u8, level: f32) -> f32
 }
 
 // The marks of six operators whose pitches are all as asked.
-pub fn all_as_asked() -> [Marked; 6]
+#[tactic(auto, unfolding(crate::specs::Levels::all_as_asked))]
+pub fn all_as_asked() -> [Mark; 6]
     ensures { result ≡ all_as_asked }
 {
-    let m = Marked {
-        mark: Mark::AsAsked,
-    };
-    [m, m, m, m, m, m]
+    [Mark::AsAsked; 6]
 }
 
-// An operator's envelope and level.
-fn raise_operator(
-    g: Scene,
-    op: patch::Operator,
-    level_headroom: f32,
-    opcode: u8,
-    e: Envelope,
-) -> Raised
-    requires { e.stage ≤ 3 }
-    ensures { raised_by e result ≡ raised g op level_headroom opcode e }
-{
-    let t = g.timing;
-    let rate = t.envelope_rate * dx_units_inner::rate_scaling(g.note, op.rate_scaling);
-    let p = place(t, true, rate, e);
-    let level = p.value + scaling(g, op, level_headroom, opcode);
-    Raised {
-        position: p.position,
-        level,
+impl Scene {
+    // An operator's frequency in turns a sample.
+    #[tactic(auto, unfolding(crate::specs::Levels::frequency_by))]
+    fn frequency(self, ratio: Ratio) -> f32
+        ensures { result ≡ frequency_of self ratio }
+    {
+        match ratio {
+            Ratio::Note(r) => r * self.f0,
+            Ratio::Hertz(r) => r * self.one_hz,
+        }
     }
-}
 
-// The first operators' envelopes, steps and marks, and in the amplitudes' place their levels. Step and mark are stored
-// before the rest is computed, which leaves more registers to that.
-fn raise_operators(
-    operator_envelope: [Envelope; 6],
-    row: [u8; 6],
-    g: Scene,
-    operators: usize,
-    op: [patch::Operator; 6],
-    ratios: [Tuned; 6],
-    level_headroom: [f32; 6],
-) -> Levels
-    requires { (operators ≤ 6) × T (all_stages operator_envelope) }
-    ensures { result ≡ raised_to g op ratios level_headroom row operator_envelope operators }
-{
-    let marks = all_as_asked();
-    let mut l = Levels {
-        operator_envelope,
-        steps: [0u32; 6],
-        marks,
-        amplitudes: [0.0f32; 6],
-    };
-    let mut i = 0usize;
-    while i < operators {
-        let tuned = ratios[i];
-        let s = dx_units_step::frequency_step(frequency(g, tuned));
-        let mark = s.mark;
-        let marked = Marked { mark };
-        l.steps[i] = s.step;
-        l.marks[i] = marked;
-        let o = op[i];
-        let e = operator_envelope[i];
-        let one = raise_operator(g, o, level_headroom[i], row[i], e);
-        let envelope = e.move_to(one.position);
-        l.operator_envelope[i] = envelope;
-        l.amplitudes[i] = one.level;
-        i = i + 1;
+    // What the keyboard, the velocity and the brightness add to a level: at most the headroom.
+    fn scaling(self, op: patch::Operator, level_headroom: f32, opcode: u8) -> f32
+        ensures { result ≡ scaling_of self op level_headroom opcode }
+    {
+        let k = op.keyboard_scaling;
+        let kb_scaling = dx_units_inner::keyboard_scaling(
+            self.note,
+            k.left_depth,
+            k.right_depth,
+            k.left_curve,
+            k.right_curve,
+            k.break_point,
+        );
+        let velocity_scaling = self.normalized_velocity * op.velocity_sensitivity as f32;
+        let brightness = brightness_of(self.brightness, opcode);
+        0.125 * numbers::f32_min(kb_scaling + velocity_scaling + brightness, level_headroom)
     }
-    l
-}
 
-// The first operators' amplitudes, of their levels.
-fn amplitudes_of(g: Scene, operators: usize, op: [patch::Operator; 6], levels: [f32; 6]) -> [f32; 6]
-    requires { (operators ≤ 6) × T (operators_fit op) }
-    ensures { result ≡ amplitudes_to g op levels operators }
-{
-    let mut l = levels;
-    let mut i = 0usize;
-    while i < operators {
-        let o = op[i];
-        l[i] = amplitude(g.amp_mod, o.amp_mod_sensitivity, l[i]);
-        i = i + 1;
+    // An operator's envelope and level.
+    fn raise_operator(
+        self,
+        op: patch::Operator,
+        level_headroom: f32,
+        opcode: u8,
+        e: Envelope,
+    ) -> Raised
+        requires { e.stage ≤ 3 }
+        ensures { raised_by e result ≡ raised self op level_headroom opcode e }
+    {
+        let t = self.timing;
+        let rate = t.envelope_rate * dx_units_inner::rate_scaling(self.note, op.rate_scaling);
+        let p = place(t, true, rate, e);
+        let level = p.value + self.scaling(op, level_headroom, opcode);
+        Raised {
+            position: p.position,
+            level,
+        }
     }
-    l
+
+    // The first operators' envelopes, steps and marks, and in the amplitudes' place their levels. Step and mark are
+    // stored before the rest is computed, which leaves more registers to that.
+    fn raise_operators(
+        self,
+        operator_envelope: [Envelope; 6],
+        row: [u8; 6],
+        operators: usize,
+        op: [patch::Operator; 6],
+        ratios: [Ratio; 6],
+        level_headroom: [f32; 6],
+    ) -> Levels
+        requires { (operators ≤ 6) × T (all_stages operator_envelope) }
+        ensures { result ≡ raised_to self op ratios level_headroom row operator_envelope operators }
+    {
+        let marks = all_as_asked();
+        let mut l = Levels {
+            operator_envelope,
+            steps: [0u32; 6],
+            marks,
+            amplitudes: [0.0f32; 6],
+        };
+        for (i, o) in op[..operators].iter().enumerate() {
+            let s = dx_units_step::frequency_step(self.frequency(ratios[i]));
+            l.steps[i] = s.step;
+            l.marks[i] = s.mark;
+            let e = operator_envelope[i];
+            let one = self.raise_operator(*o, level_headroom[i], row[i], e);
+            l.operator_envelope[i] = e.move_to(one.position);
+            l.amplitudes[i] = one.level;
+        }
+        l
+    }
+
+    // The first operators' amplitudes, of their levels.
+    fn amplitudes_of(self, operators: usize, op: [patch::Operator; 6], levels: [f32; 6]) -> [f32; 6]
+        requires { (operators ≤ 6) × T (operators_fit op) }
+        ensures { result ≡ amplitudes_to self op levels operators }
+    {
+        let mut l = levels;
+        for (i, o) in op[..operators].iter().enumerate() {
+            l[i] = amplitude(self.amp_mod, o.amp_mod_sensitivity, l[i]);
+        }
+        l
+    }
 }
 
 // The first `operators` of six; the others keep their envelopes, their steps and amplitudes are 0, and their marks say
@@ -297,7 +286,7 @@ pub fn level_operators(
     g: Scene,
     operators: usize,
     op: [patch::Operator; 6],
-    ratios: [Tuned; 6],
+    ratios: [Ratio; 6],
     level_headroom: [f32; 6],
     row: [u8; 6],
     operator_envelope: [Envelope; 6],
@@ -305,17 +294,14 @@ pub fn level_operators(
     requires { (operators ≤ 6) × T (operators_fit op) × T (all_stages operator_envelope) }
     ensures { result ≡ leveled_to g op ratios level_headroom row operator_envelope operators }
 {
-    let mut l = raise_operators(
+    let mut l = g.raise_operators(
         operator_envelope,
         row,
-        g,
         operators,
         op,
         ratios,
         level_headroom,
     );
-    let levels = l.amplitudes;
-    let amplitudes = amplitudes_of(g, operators, op, levels);
-    l.amplitudes = amplitudes;
+    l.amplitudes = g.amplitudes_of(operators, op, l.amplitudes);
     l
 }

@@ -13,6 +13,7 @@ fn shift(transpose: u8) -> f32
 }
 
 // The note that a block plays: one sum with one rounding where the voice transposes, else the note itself.
+#[tactic(auto, unfolding(crate::specs::Note::played_note))]
 pub fn played_note(transposes: bool, transpose: u8, note: f32) -> f32
     ensures { result ≡ played_note transposes transpose note }
 {

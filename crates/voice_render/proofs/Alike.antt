@@ -8,7 +8,7 @@ use lib.Dec.{T}
 use lib.ListN.{length, take}
 use lib.Ieee.{Float}
 use Rattle.algorithms.proofs.Accepted.{SafePlan, planned_safe}
-use Rattle.dx_units_step.specs.declared.Marked.{Marked}
+use Rattle.dx_units_step.specs.declared.Mark.{Mark}
 use Rattle.voice_block.specs.declared.Operators.{Operators}
 use Rattle.voice_block.proofs.Same.{same_sound}
 use Rattle.voice_block.proofs.Lengths.{ran_length}
@@ -23,10 +23,10 @@ use Rattle.voice_render.specs.Answers.{block_fits, parameters_fit_for, Answered,
 use Rattle.voice_render.specs.Heard.{output, heard_of}
 use Rattle.voice_render.proofs.Blocks.{block_whole}
 
-abbrev answer : ℕ → List Marked → Voice → List Float → Answered
+abbrev answer : ℕ → List Mark → Voice → List Float → Answered
 answer number marks v block = record { number = number; marks = marks; voice = v; block = block }
 
-same_answer : (number : ℕ) (marks : List Marked) {v w : Voice} {one other : List Float} → v ≡ w → one ≡ other
+same_answer : (number : ℕ) (marks : List Mark) {v w : Voice} {one other : List Float} → v ≡ w → one ≡ other
     → answer number marks v one ≡ answer number marks w other
 same_answer number marks e f = rw (e, f)
 

@@ -3,7 +3,7 @@
 use Rattle.std.specs.Prelude.{ℕ, ◌%◌, Bool, true, false, cond, ◌&&◌, List, eqb, leb, length, Float}
 use Rattle.numbers.specs.F32.{decimal, minus_decimal}
 use Rattle.patch_limits.specs.Ranges.{between, note_fits, unit_fits}
-use Rattle.dx_units_step.specs.declared.Marked.{Marked}
+use Rattle.dx_units_step.specs.declared.Mark.{Mark}
 use Rattle.voice_levels.specs.Levels.{all_as_asked}
 use Rattle.voice.specs.declared.Voice.{Voice}
 use Rattle.voice.specs.Answers.{state_fits}
@@ -46,7 +46,7 @@ setup_answer high low v =
 -- the number, a mark for each operator, the voice and the whole block after it
 pub record Answered : Type 0 where
   pub number : ℕ
-  pub marks : List Marked
+  pub marks : List Mark
   pub voice : Voice
   pub block : List Float
 

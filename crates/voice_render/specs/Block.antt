@@ -3,7 +3,7 @@
 use Rattle.std.specs.Prelude.{ℕ, ◌/◌, Bool, false, cond, not, ◌&&◌, ◌||◌, List, [], ◌∷◌, eqb, length, get_or, Float}
 use Rattle.numbers.specs.F32.{◌⊕◌}
 use Rattle.dx_units_inner.specs.Units.{normalized_velocity_of}
-use Rattle.dx_units_step.specs.declared.Marked.{Marked}
+use Rattle.dx_units_step.specs.declared.Mark.{Mark}
 use Rattle.operator.specs.declared.Operator.{Operator}
 use Rattle.voice_note.specs.Note.{played_note}
 use Rattle.voice_block.specs.declared.Operators.{Operators}
@@ -99,7 +99,7 @@ after v p b l os =
 -- the voice, a mark for each operator and all four quarters after a sounding block
 pub record Sounded : Type 0 where
   pub voice : Voice
-  pub marks : List Marked
+  pub marks : List Mark
   pub block : List Float
 
 module _ (pairs high low : List Float) (v : Voice) (p : VoiceParameters) where
@@ -110,7 +110,7 @@ module _ (pairs high low : List Float) (v : Voice) (p : VoiceParameters) where
       v.operator_envelope v.operators
 
   -- the marks that it tells: no pitch of an empty block is cut off
-  unfoldable pub marks_for : ℕ → List Marked
+  unfoldable pub marks_for : ℕ → List Mark
   marks_for n = cond (eqb n 0) all_as_asked (levels_for n).marks
 
   -- the plan's calls over the block

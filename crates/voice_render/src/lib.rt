@@ -14,7 +14,7 @@ ghost use Rattle.voice_render.specs.Block.{played_by, note_on, struck, begun, re
 ghost use Rattle.voice_render.specs.Answers.{block_fits, parameters_fit, parameters_fit_for, setup_answer};
 ghost use Rattle.voice_render.specs.Answers.{answered_by, sounding, render_answer};
 
-use dx_units_step::Marked;
+use dx_units_step::Mark;
 use envelope_inner::Envelope;
 use operator::Operator;
 use voice::Voice;
@@ -39,7 +39,7 @@ pub struct VoiceParameters {
 #[derive(Clone, Copy)]
 pub struct Rendered {
     pub number: u8,
-    pub marks: [Marked; 6],
+    pub marks: [Mark; 6],
     pub voice: Voice,
 }
 
@@ -249,7 +249,7 @@ fn enter(v: Voice, p: VoiceParameters) -> [Operator; 6]
 }
 
 // The marks that a block of n samples tells: no pitch of an empty one is cut off.
-fn told(n: usize, marks: [Marked; 6]) -> [Marked; 6]
+fn told(n: usize, marks: [Mark; 6]) -> [Mark; 6]
     ensures { result ≡ cond (eqb n 0) all_as_asked marks }
 {
     if n == 0 {

@@ -68,7 +68,7 @@ pub set_up_lem : (high low : List Float) (e : Envelope) (o : Operator) {l : ℕ}
     → f ≡ operator_set e o.envelope.rate o.envelope.level l
     → h ≡ headroom_of l
     → r ≡ frequency_ratio high low o.mode o.coarse o.fine o.detune
-    → record { envelope = f; level_headroom = h; tuned = record { ratio = r } } ≡ operator_set_up high low e o
+    → record { envelope = f; level_headroom = h; ratio = r } ≡ operator_set_up high low e o
 unfolding operator_set_up
 set_up_lem high low e o el ef eh er = rw (ef, eh, er, el) refl
 

@@ -29,14 +29,14 @@ operator_set_up high low e o =
     record {
       envelope = operator_set e o.envelope.rate o.envelope.level level;
       level_headroom = headroom_of level;
-      tuned = record { ratio = frequency_ratio high low o.mode o.coarse o.fine o.detune };
+      ratio = frequency_ratio high low o.mode o.coarse o.fine o.detune;
     }
 
 -- operator i put in its place
 unfoldable pub put_at : ℕ → OperatorSetup → Setup → Setup
 put_at i one s = record {
   operator_envelope = set s.operator_envelope i one.envelope;
-  ratios = set s.ratios i one.tuned;
+  ratios = set s.ratios i one.ratio;
   level_headroom = set s.level_headroom i one.level_headroom;
 }
 

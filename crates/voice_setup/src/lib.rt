@@ -9,30 +9,25 @@ ghost use Rattle.voice_setup.specs.Setup.{headroom_of, operator_set_up, set_up_t
 use dx_units_inner::{LevelChart, Ratio};
 use envelope_inner::Envelope;
 
-// A frequency ratio, as an element of an array.
-#[derive(Clone, Copy)]
-pub struct Tuned {
-    pub ratio: Ratio,
-}
-
 // What a patch makes of one operator.
 #[derive(Clone, Copy)]
 pub struct OperatorSetup {
     pub envelope: Envelope,
     pub level_headroom: f32,
-    pub tuned: Tuned,
+    pub ratio: Ratio,
 }
 
 // And of all.
 #[derive(Clone, Copy)]
 pub struct Setup {
     pub operator_envelope: [Envelope; 6],
-    pub ratios: [Tuned; 6],
+    pub ratios: [Ratio; 6],
     pub level_headroom: [f32; 6],
 }
 
 // The level increase caused by keyboard scaling plus velocity scaling is held at this number: more would be an operator
 // with a level above 99.
+#[tactic(auto, unfolding(crate::specs::Setup::headroom_of))]
 fn headroom(level: u8) -> f32
     requires { level ≤ 127 }
     ensures { result ≡ headroom_of level }
@@ -60,7 +55,7 @@ fn operator_setup(
     OperatorSetup {
         envelope,
         level_headroom,
-        tuned: Tuned { ratio },
+        ratio,
     }
 }
 
@@ -78,17 +73,11 @@ pub fn setup_operators(
     // In this order: behind the chart's making, `before` would be copied once more.
     let mut s = before;
     let chart = LevelChart::new();
-    let mut i = 0usize;
-    while i < operators {
-        let e = s.operator_envelope[i];
-        let o = op[i];
-        let one = operator_setup(&chart, high, low, e, o);
-        let envelope = one.envelope;
-        let tuned = one.tuned;
-        s.operator_envelope[i] = envelope;
-        s.ratios[i] = tuned;
+    for (i, o) in op[..operators].iter().enumerate() {
+        let one = operator_setup(&chart, high, low, s.operator_envelope[i], *o);
+        s.operator_envelope[i] = one.envelope;
+        s.ratios[i] = one.ratio;
         s.level_headroom[i] = one.level_headroom;
-        i = i + 1;
     }
     s
 }

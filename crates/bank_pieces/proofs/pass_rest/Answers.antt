@@ -10,7 +10,7 @@ slice_bounds-pass_all-end c = sym (length-take-le _ _ (omega arith))
 
 pub returns : goal.returns
 returns c =
-    passed_rest c.args.r c.args.piece.now c.least-n.result
+    passed_rest c.args.r c.args.piece.now c.min-n.result
     c.pass_all-q.result _ c.requires (omega arith)
-    (omega (arith, c.least-n.ensures, c.up_to.ensures)) c.pass_all-q.ensures
-    c.counted.ensures
+    (omega (arith, c.min-n.ensures, c.saturating_sub.ensures)) c.pass_all-q.ensures
+    c.saturating_add.ensures

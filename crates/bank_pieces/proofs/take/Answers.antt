@@ -1,7 +1,6 @@
 -- `bank_pieces::take` meets its contract. Assumes nothing.
 use mathlib.Core.Path.{sym, ◌∙◌, ap}
-use Rattle.bank_pieces.specs.declared.Taken.{Taken}
-use Rattle.bank_pieces.specs.Pieces.{take_of}
+use Rattle.bank_pieces.specs.Pieces.{accepted, take_of}
 use Rattle.bank_pieces.proofs.Calls.{took_rest}
 use Rattle.bank_pieces.proofs.take.Goals as goal
 
@@ -13,25 +12,19 @@ returns-then-not-is_possible c =
 pub returns-then-receiver-lt6 : goal.returns-then-receiver-lt6
 unfolding take_of
 returns-then-receiver-lt6 c =
-    simp (
-      sym c.is_possible.ensures ∙ c.if-not-is_possible.false,
-      c.take_first.ensures,
-    )
+    let yes = sym c.is_possible.ensures ∙ c.if-not-is_possible.false in
+    rw yes (ap accepted c.take_first.ensures)
 
 pub returns-then-receiver-lt4102 : goal.returns-then-receiver-lt4102
 unfolding take_of
 returns-then-receiver-lt4102 c =
-    simp (
-      sym c.is_possible.ensures ∙ c.if-not-is_possible.false,
-      c.take_data.ensures,
-    )
+    let yes = sym c.is_possible.ensures ∙ c.if-not-is_possible.false in
+    rw yes (ap accepted c.take_data.ensures)
 
 pub returns : goal.returns
 unfolding take_of
 returns c =
-    let patch = c.args.patch.now in
     let yes = sym c.is_possible.ensures ∙ c.if-not-is_possible.false in
     rw yes
-    (ap (λ (t : Taken). record { taken = t; patch = patch }) c.whole.ensures
-    ∙ took_rest c.args.receiver c.args.piece.now patch c.if-receiver-lt4102.false
-    c.pass_rest.result c.pass_rest.ensures)
+    (ap accepted (took_rest c.args.receiver c.args.piece.now c.args.patch.now c.if-receiver-lt4102.false
+    c.pass_rest.result c.pass_rest.ensures))

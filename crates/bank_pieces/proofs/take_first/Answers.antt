@@ -1,13 +1,12 @@
 -- `bank_pieces::take_first` meets its contract. Assumes nothing.
 use mathlib.Core.Path.{sym, ◌∙◌, ap}
-use mathlib.Core.Bool.{false}
 use mathlib.Core.List.{List}
 use Prim.Native.Nat.{ℕ, ◌-◌}
 use native.Mathlib.Omega.{arith}
 use lib.ListN.{length, take, drop, length-drop}
 use lib.Seq.{length-take-le, take_all}
 use Rattle.bank_pieces.specs.declared.Receiver.{Receiver}
-use Rattle.bank_pieces.specs.declared.Taken.{Taken}
+use Rattle.std.specs.Prelude.{None}
 use Rattle.bank_pieces.specs.Pieces.{Held, Took, passed_all, took}
 use Rattle.bank_pieces.proofs.Calls.{answered, onward, took_frame, took_on, taken_least, passed_count}
 use Rattle.bank_pieces.proofs.take_first.Goals as goal
@@ -19,17 +18,16 @@ pub returns-then-n-piece : goal.returns-then-n-piece
 returns-then-n-piece c =
     let piece = c.args.piece.now in
     let patch = c.args.patch.now in
-    let n = c.least-n.result in
+    let n = c.min-n.result in
     let all = take_all n piece (omega arith) in
     let held : Held = record { receiver = c.pass_all-q.result; patch = patch } in
-    ap (λ (t : Taken). record { taken = t; patch = patch }) c.whole.ensures
-    ∙ ap (λ (k : ℕ). answered held k false 0) c.if-n-piece.true
+    ap (λ (k : ℕ). answered held k None) c.if-n-piece.true
     ∙ took_frame c.args.r piece patch (omega arith) c.pass_all-q.result
     (c.pass_all-q.ensures ∙ ap (passed_all c.args.r) all)
 
 pub take_data-t-requires : goal.take_data-t-requires
 take_data-t-requires c =
-    let n = c.least-n.result in
+    let n = c.min-n.result in
     let l = length-take-le n c.args.piece.now (omega arith) in
     let e = ap (λ (q : Receiver). q.count) c.pass_all-q.ensures in
     let k = passed_count c.args.r (take n c.args.piece.now) (omega arith) in
@@ -37,7 +35,7 @@ take_data-t-requires c =
 
 pub overflow_add-result : goal.overflow_add-result
 overflow_add-result c =
-    let n = c.least-n.result in
+    let n = c.min-n.result in
     let piece = c.args.piece.now in
     let patch = c.args.patch.now in
     let l = length-drop n piece in
@@ -52,7 +50,7 @@ pub returns : goal.returns
 returns c =
     let piece = c.args.piece.now in
     let patch = c.args.patch.now in
-    let n = c.least-n.result in
+    let n = c.min-n.result in
     let l = length-take-le n piece (omega arith) in
     let e = ap (λ (q : Receiver). q.count) c.pass_all-q.ensures in
     let k = passed_count c.args.r (take n piece) (omega arith) in

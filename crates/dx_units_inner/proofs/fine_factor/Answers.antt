@@ -3,7 +3,8 @@ use lib.Ieee.{of_bits}
 use Rattle.numbers.specs.F32.{decimal}
 use Rattle.dx_units_inner.proofs.Conversions.{factor_fine, factor_none, factor_hertz}
 use Rattle.dx_units_inner.proofs.fine_factor.Goals as goal
-use Rattle.dx_units_inner.proofs.fine_factor.Goals.{else-mode-eq0-via-then-mode-eq0+else-fine-ne0, else-mode-eq0-via-else-mode-eq0}
+use Rattle.dx_units_inner.proofs.fine_factor.Goals.{else-mode-eq0-via-then-mode-eq0+else-fine-ne0}
+use Rattle.dx_units_inner.proofs.fine_factor.Goals.{else-mode-eq0-via-else-mode-eq0}
 
 pub returns-then-fine-ne0 : goal.returns-then-fine-ne0
 unfolding decimal of_bits

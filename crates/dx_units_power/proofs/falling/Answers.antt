@@ -1,5 +1,5 @@
 -- `dx_units_power::falling` meets its contract. Assumes nothing.
-use Rattle.std.proofs.Common.{◌≡◌, ◌+◌, true, false, arith}
+use Rattle.std.proofs.Common.{◌≡◌, ◌+◌, true, false, refl, arith}
 use lib.Ieee.{Float, le, lt, of_bits}
 use Rattle.numbers.specs.F32.{decimal, minus_decimal}
 use Rattle.dx_units_power.proofs.Reach.{Falling, is_falling, falling_count, falling_above, falling_under, exact}
@@ -32,5 +32,4 @@ pub returns : goal.returns
 unfolding decimal of_bits
 returns c =
     fallen c.args.x (there c.args.x c.requires) c.truncating_f32_to_u64.ensures
-    c.mantissa-m.ensures
-    c.wrapping_sub_u32.ensures c.f32_from_bits.ensures
+    c.mantissa-m.ensures refl c.f32_from_bits.ensures

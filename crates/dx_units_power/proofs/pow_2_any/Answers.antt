@@ -1,4 +1,5 @@
 -- `dx_units_power::pow_2_any` meets its contract. Assumes nothing.
+use mathlib.Core.Path.{refl}
 use lib.Ieee.{of_bits}
 use Rattle.numbers.specs.F32.{decimal}
 use Rattle.numbers.proofs.Signed.{back}
@@ -11,5 +12,4 @@ returns c =
     let n = c.whole_below-integral in
     other_order c.args.x c.args.order c.requires n.ensures (back n.result n.type_inv)
     c.i32_as_f32.ensures (back c.args.order c.ranges.order.sfits)
-    c.mantissa-mantissa.ensures c.i32_as_u32.ensures c.wrapping_shl_u32-exponent.ensures
-    c.wrapping_add_u32.ensures c.f32_from_bits.ensures
+    c.mantissa-mantissa.ensures c.cast_unsigned-exponent.ensures refl refl c.f32_from_bits.ensures

@@ -3,19 +3,13 @@ use Rattle.std.proofs.Common.{pos, refl, rules}
 use lib.Ieee.{Float, of_bits}
 use Rattle.numbers.specs.F32.{◌⊕◌, ◌⊗◌, decimal}
 use Rattle.numbers.proofs.Signed.{back}
-use Rattle.numbers.proofs.Casts.{fast_in, at_least_no_nan, widens}
+use Rattle.numbers.proofs.Casts.{fast_in}
 use Rattle.dx_units_power.proofs.Orders.{first_order}
 use Rattle.dx_units_power.proofs.Reach.{a_pattern, pattern_whole, pattern_below, no_nan, in_one_cast}
 use Rattle.dx_units_power.proofs.pow_2_fast_1.Goals as goal
 
 abbrev product : Float → Float
 product x = decimal 8388608 0 ⊗ (decimal 127 0 ⊕ x)
-
-pub float_to_float-result : goal.float_to_float-result
-unfolding decimal of_bits
-float_to_float-result c =
-    let y = product c.args.x in
-    widens y (search rules) (at_least_no_nan 23 y (pattern_whole y (a_pattern y c.if-y.true)))
 
 pub float_to_int-result : goal.float_to_int-result
 unfolding decimal of_bits
@@ -37,7 +31,6 @@ returns-then-y c =
 pub returns : goal.returns
 unfolding decimal of_bits
 returns c =
-    let n = c.f32_as_i32-bits in
-    first_order c.args.x (pos 1) refl n.ensures (back n.result n.type_inv)
-    c.i32_as_u32.ensures
+    let n = c.f32_as_i32 in
+    first_order c.args.x (pos 1) refl n.ensures (back n.result n.type_inv) c.cast_unsigned.ensures
     c.f32_from_bits.ensures

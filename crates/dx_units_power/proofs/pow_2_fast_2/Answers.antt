@@ -1,5 +1,4 @@
 -- `dx_units_power::pow_2_fast_2` meets its contract. Assumes nothing.
-use Rattle.std.proofs.Common.{refl}
 use lib.Ieee.{of_bits, neg}
 use Rattle.numbers.specs.F32.{decimal, minus_decimal}
 use Rattle.dx_units_power.proofs.pow_2_fast_2.Goals as goal
@@ -11,6 +10,3 @@ rising-requires c = (c.if-x.true, c.if-x-2.true)
 pub falling-requires : goal.falling-requires
 unfolding decimal minus_decimal of_bits neg
 falling-requires c = (c.if-x.false, c.if-x-3.true)
-
-pub pow_2_any-requires : goal.pow_2_any-requires
-pow_2_any-requires c = refl

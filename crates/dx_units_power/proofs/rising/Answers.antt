@@ -1,5 +1,5 @@
 -- `dx_units_power::rising` meets its contract. Assumes nothing.
-use Rattle.std.proofs.Common.{◌≡◌, true, arith}
+use Rattle.std.proofs.Common.{◌≡◌, true, refl, arith}
 use lib.Ieee.{Float, le, lt, of_bits}
 use Rattle.numbers.specs.F32.{decimal}
 use Rattle.dx_units_power.proofs.Reach.{Rising, is_rising, rising_count, rising_above, rising_under, exact}
@@ -29,5 +29,4 @@ pub returns : goal.returns
 unfolding decimal of_bits
 returns c =
     risen c.args.x (there c.args.x c.requires) c.truncating_f32_to_u64-n.ensures
-    c.mantissa-m.ensures
-    c.wrapping_add_u32.ensures c.f32_from_bits.ensures
+    c.mantissa-m.ensures refl c.f32_from_bits.ensures

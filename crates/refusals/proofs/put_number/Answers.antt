@@ -1,20 +1,20 @@
 -- `refusals::put_number` meets its contract. Assumes nothing.
-use Rattle.refusals.proofs.Pieces.{one_digit, two_digits, three_digits}
+use borrow.Author.Tests.{lt-ltb, le-ltb}
+use Rattle.refusals.specs.Refusals.{decimal}
 use Rattle.refusals.proofs.put_number.Goals as goal
 
 pub returns-then-n-lt10 : goal.returns-then-n-lt10
-returns-then-n-lt10 c =
-    one_digit _ _ _ _ _ _ c.if-n-lt10.true c.digit-ones.ensures c.put.ensures
+unfolding decimal
+returns-then-n-lt10 c = rw (lt-ltb c.args.n 10 c.if-n-lt10.true) (rw c.digit-ones.ensures at c.put.ensures)
 
 pub returns-then-n-lt100 : goal.returns-then-n-lt100
+unfolding decimal
 returns-then-n-lt100 c =
-    two_digits _ _ _ _ _ _ _ c.if-n-lt10.false c.if-n-lt100.true c.digit-tens.ensures
-    c.digit-ones.ensures
-    c.put-then-n-lt100.ensures
+    rw (le-ltb c.args.n 10 c.if-n-lt10.false, lt-ltb c.args.n 100 c.if-n-lt100.true)
+    (rw (c.digit-tens.ensures, c.digit-ones.ensures) at c.put-then-n-lt100.ensures)
 
 pub returns : goal.returns
+unfolding decimal
 returns c =
-    three_digits _ _ _ _ _ _ _ _ c.if-n-lt10.false c.if-n-lt100.false c.digit-hundreds.ensures
-    c.digit-tens.ensures
-    c.digit-ones.ensures
-    c.put-2.ensures
+    rw (le-ltb c.args.n 10 c.if-n-lt10.false, le-ltb c.args.n 100 c.if-n-lt100.false)
+    (rw (c.digit-hundreds.ensures, c.digit-tens.ensures, c.digit-ones.ensures) at c.put-2.ensures)

@@ -1,15 +1,11 @@
 -- `single::write` meets its contract: what fits is written, on one of sixteen channels. Assumes nothing.
-use mathlib.Core.Path.{◌∙◌}
-use Rattle.single.proofs.Answers.{is_written, not_written}
+use Rattle.single.specs.Single.{write_of}
 use Rattle.single.proofs.write.Goals as goal
 
 pub returns-then-fits-channel : goal.returns-then-fits-channel
-returns-then-fits-channel c =
-    is_written c.args.patch c.args.channel _ c.fits.ensures
-    c.if-fits-channel.true _ c.write_whole-bytes.ensures
+unfolding write_of
+returns-then-fits-channel c = rw (← c.fits.ensures, c.if-fits-channel.true, c.write_whole.ensures)
 
-pub returns : goal.returns
-returns c =
-    c.refused.ensures
-    ∙ not_written c.args.patch c.args.channel _ c.fits.ensures
-    c.if-fits-channel.false
+pub returns-else-fits-channel : goal.returns-else-fits-channel
+unfolding write_of
+returns-else-fits-channel c = rw (← c.fits.ensures, c.if-fits-channel.false)

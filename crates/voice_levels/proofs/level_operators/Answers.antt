@@ -6,4 +6,4 @@ pub returns : goal.returns
 returns c =
     let a = c.args in
     sounded_is_leveled a.g a.op a.ratios a.level_headroom a.row a.operator_envelope a.operators
-    c.raise_operators-l.ensures c.amplitudes_of-amplitudes.ensures
+    c.raise_operators-l.ensures c.amplitudes_of-l.ensures

@@ -1,9 +1,0 @@
--- `bench::bench_sine_pm` keeps within its slices and ends. Assumes nothing.
-use Rattle.std.proofs.Common.{length, ◌≡◌, ◌-◌, ◌≤◌}
-use Rattle.bench.proofs.bench_sine_pm.Given as goal
-
-abbrev pub invariant-loop-k : goal.invariant-loop-k
-invariant-loop-k l = (length l.out ≡ length l.initial.out) × (l.k ≤ l.blocks)
-
-abbrev pub decreases-loop-k : goal.decreases-loop-k
-decreases-loop-k l = l.blocks - l.k
