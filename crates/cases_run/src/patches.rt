@@ -34,7 +34,9 @@ fn told(refusal: Option<Refusal>) -> u64 {
 
 // 1 for fewer than 128 bytes.
 fn unpacked(to: Streams, text: &str, bytes: &[u8]) -> io::Result<()> {
-    line(to, text,
+    line(
+        to,
+        text,
         told(patch::unpack(Patch::new(), bytes).err().map(|r| r.refusal)),
     )
 }
@@ -72,17 +74,25 @@ fn sensitivity(to: Streams) -> io::Result<()> {
     data[116] = 255;
     let p = patch::unpack(Patch::new(), &data).unwrap_or(Patch::new());
     let m = p.modulations;
-    line(to, "sensitivity of byte 255: ",
+    line(
+        to,
+        "sensitivity of byte 255: ",
         m.pitch_mod_sensitivity as u64,
     )?;
     line(to, "waveform of byte 255: ", m.waveform as u64)?;
-    line(to, "check of that patch: ",
+    line(
+        to,
+        "check of that patch: ",
         told(patch_limits::check(p).err()),
     )?;
-    line(to, "modulations fit 15: ",
+    line(
+        to,
+        "modulations fit 15: ",
         patch_limits::modulations_fit(m, 15) as u64,
     )?;
-    line(to, "modulations fit 7: ",
+    line(
+        to,
+        "modulations fit 7: ",
         patch_limits::modulations_fit(m, 7) as u64,
     )
 }
@@ -92,34 +102,34 @@ fn level(to: Streams) -> io::Result<()> {
     let mut o = p.op[0];
     o.level = 100;
     p.op[0] = o;
-    line(to, "level 100: ",
-        told(patch_limits::check(p).err()),
-    )
+    line(to, "level 100: ", told(patch_limits::check(p).err()))
 }
 
 fn checksums(to: Streams) -> io::Result<()> {
     let zeros = [0u8; 4096];
     let mut data = [0u8; 4096];
     data[0] = 1;
-    line(to, "checksum of zeros: ",
-        dump::checksum(&zeros) as u64,
-    )?;
-    line(to, "checksum of a single 1: ",
-        dump::checksum(&data) as u64,
-    )
+    line(to, "checksum of zeros: ", dump::checksum(&zeros) as u64)?;
+    line(to, "checksum of a single 1: ", dump::checksum(&data) as u64)
 }
 
 fn lengths(to: Streams) -> io::Result<()> {
     let short = [0u8; 4103];
     let sound = sound_dump();
     let long = [0u8; 4105];
-    line(to, "dump of 4103 bytes: ",
+    line(
+        to,
+        "dump of 4103 bytes: ",
         told(bank::validate(&short).err()),
     )?;
-    line(to, "dump of 4104 bytes: ",
+    line(
+        to,
+        "dump of 4104 bytes: ",
         told(bank::validate(&sound).err()),
     )?;
-    line(to, "dump of 4105 bytes: ",
+    line(
+        to,
+        "dump of 4105 bytes: ",
         told(bank::validate(&long).err()),
     )
 }
@@ -150,11 +160,7 @@ fn channels(to: Streams) -> io::Result<()> {
     opened(to, "third byte 0F: ", "its channel: ", 0x0F, 0)?;
     opened(to, "third byte 10: ", "its channel: ", 0x10, 0)?;
     opened(to, "third byte FF: ", "its channel: ", 0xFF, 0)?;
-    opened(to, "third byte 03, checksum 1: ",
-        "its channel: ",
-        0x03,
-        1,
-    )
+    opened(to, "third byte 03, checksum 1: ", "its channel: ", 0x03, 1)
 }
 
 fn contents(to: Streams) -> io::Result<()> {
@@ -175,14 +181,14 @@ fn slots(to: Streams) -> io::Result<()> {
     let short = [0u8; 7];
     line(to, "slot 31: ", told(bank::check(&sound, 31).err()))?;
     line(to, "slot 32: ", told(bank::check(&sound, 32).err()))?;
-    line(to, "slot 32 of a short dump: ",
+    line(
+        to,
+        "slot 32 of a short dump: ",
         told(bank::check(&short, 32).err()),
     )?;
     line(to, "part of slot 31: ", length(bank::read(&sound, 31)))?;
     line(to, "part of slot 32: ", length(bank::read(&sound, 32)))?;
-    line(to, "part of a short dump: ",
-        length(bank::part(&short, 0)),
-    )
+    line(to, "part of a short dump: ", length(bank::part(&short, 0)))
 }
 
 fn dumps(to: Streams) -> io::Result<()> {

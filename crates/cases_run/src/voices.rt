@@ -80,9 +80,7 @@ fn high() -> Voice {
 }
 
 fn started(to: Streams, text: &str, operators: usize, sample_rate: f32) -> io::Result<()> {
-    line(to, text,
-        number_of(voice::init(operators, sample_rate)),
-    )
+    line(to, text, number_of(voice::init(operators, sample_rate)))
 }
 
 fn starts(to: Streams) -> io::Result<()> {
@@ -101,7 +99,9 @@ fn gates(to: Streams) -> io::Result<()> {
 }
 
 fn rendered(to: Streams, text: &str, note: f32, block: &mut [f32]) -> io::Result<()> {
-    line(to, text,
+    line(
+        to,
+        text,
         number_of_block(voice_render::render(dirty(), parameters(note), block)),
     )
 }
@@ -175,7 +175,9 @@ fn played(to: Streams, text: &str, v: Voice, note: f32) -> io::Result<()> {
 // The number of a blank block.
 fn asked(to: Streams, text: &str, v: Voice, note: f32) -> io::Result<()> {
     let mut block = [0.0f32; 8];
-    line(to, text,
+    line(
+        to,
+        text,
         number_of_block(voice_render::render(v, parameters(note), &mut block)),
     )
 }
@@ -185,28 +187,33 @@ fn transposes(to: Streams) -> io::Result<()> {
     let low = transposing(0, true);
     let high = transposing(48, true);
     let none = after(voice::take_patch(high));
-    played(to, "transpose 36, switch off, note 60 plays: ",
+    played(
+        to,
+        "transpose 36, switch off, note 60 plays: ",
         transposing(36, false),
         60.0,
     )?;
-    played(to, "transpose 36, switch on, note 60 plays: ",
+    played(
+        to,
+        "transpose 36, switch on, note 60 plays: ",
         transposing(36, true),
         60.0,
     )?;
     asked(to, "transpose 0, switch on, note 24: ", low, 24.0)?;
-    asked(to, "transpose 0, switch on, note 23.999998: ",
+    asked(
+        to,
+        "transpose 0, switch on, note 23.999998: ",
         low,
         23.999998,
     )?;
     asked(to, "transpose 48, switch on, note 103: ", high, 103.0)?;
-    asked(to, "transpose 48, switch on, note 103.00001: ",
+    asked(
+        to,
+        "transpose 48, switch on, note 103.00001: ",
         high,
         103.00001,
     )?;
-    asked(to, "no patch, switch on, note 103.00001: ",
-        none,
-        103.00001,
-    )
+    asked(to, "no patch, switch on, note 103.00001: ", none, 103.00001)
 }
 
 fn taken_out(to: Streams, text: &str, v: Voice) -> io::Result<()> {

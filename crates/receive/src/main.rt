@@ -5,9 +5,8 @@
 #![tactic(auto)]
 
 use bank_pieces::Receiver;
-use std::array;
-use std::io;
 use std::io::Stdin;
+use std::{array, io};
 use streams::{Columns, Streams, Window};
 
 // How far a run has come: the window over standard input, the reader of the dump, and whether it goes on.
