@@ -2,6 +2,7 @@
 use crate::{heading, line};
 use dx_units_step::Mark;
 use patch::Patch;
+use refusals::Refused;
 use streams::Streams;
 use voice::Voice;
 use voice_render::{Rendered, VoiceParameters};
@@ -19,15 +20,42 @@ fn parameters(note: f32) -> VoiceParameters {
     }
 }
 
+// The voice that a caller goes on with.
+fn after(done: Result<Voice, Refused<Voice>>) -> Voice {
+    match done {
+        Ok(v) => v,
+        Err(e) => e.state,
+    }
+}
+
+fn after_block(done: Result<Rendered, Refused<Voice>>) -> Voice {
+    match done {
+        Ok(r) => r.voice,
+        Err(e) => e.state,
+    }
+}
+
+// The number of an answer: 0 for one that is no refusal.
+fn number_of(done: Result<Voice, Refused<Voice>>) -> u64 {
+    match done {
+        Ok(_) => 0,
+        Err(e) => u64::from(e.refusal.number()),
+    }
+}
+
+fn number_of_block(done: Result<Rendered, Refused<Voice>>) -> u64 {
+    match done {
+        Ok(_) => 0,
+        Err(e) => u64::from(e.refusal.number()),
+    }
+}
+
 // A voice of six operators that has a packed patch.
 fn loaded(packed: &[u8]) -> Voice {
     let table = algorithms_opcodes::opcodes_6_32();
     let p = patch::unpack(Patch::new(), packed).unwrap_or(Patch::new());
-    let started = voice::init(6, 48000.0);
-    let fresh = started.voice;
-    let set = voice::set_patch(fresh, p, &table);
-    let v = set.voice;
-    v
+    let fresh = after(voice::init(6, 48000.0));
+    after(voice::set_patch(fresh, p, &table))
 }
 
 // One with the patch of zeros.
@@ -55,7 +83,7 @@ fn started(to: Streams, going: bool, text: &[u8], operators: usize, sample_rate:
         to,
         going,
         text,
-        voice::init(operators, sample_rate).number as u64,
+        number_of(voice::init(operators, sample_rate)),
     )
 }
 
@@ -68,10 +96,8 @@ fn starts(to: Streams, going: bool) -> bool {
 // The easy slip: a blank block does not record the gate.
 fn gates(to: Streams, going: bool) -> bool {
     let mut block = [0.0f32; 8];
-    let blank = voice_render::render(dirty(), parameters(60.0), &mut block);
-    let v = blank.voice;
-    let sounding = voice_render::render(v, parameters(60.0), &mut block);
-    let w = sounding.voice;
+    let v = after_block(voice_render::render(dirty(), parameters(60.0), &mut block));
+    let w = after_block(voice_render::render(v, parameters(60.0), &mut block));
     let a = line(to, going, b"gate after a blank block: ", v.gate as u64);
     line(to, a, b"gate after a sounding block: ", w.gate as u64)
 }
@@ -81,7 +107,7 @@ fn rendered(to: Streams, going: bool, text: &[u8], note: f32, block: &mut [f32])
         to,
         going,
         text,
-        voice_render::render(dirty(), parameters(note), block).number as u64,
+        number_of_block(voice_render::render(dirty(), parameters(note), block)),
     )
 }
 
@@ -105,11 +131,19 @@ fn digit(mark: Mark) -> u8 {
     }
 }
 
-fn marked(to: Streams, going: bool, text: &[u8], r: Rendered) -> bool {
+// A block's marks; a refused one's are all as asked.
+fn marks_of(done: Result<Rendered, Refused<Voice>>) -> [Mark; 6] {
+    match done {
+        Ok(r) => r.marks,
+        Err(_) => [Mark::AsAsked; 6],
+    }
+}
+
+fn marked(to: Streams, going: bool, text: &[u8], done: Result<Rendered, Refused<Voice>>) -> bool {
     if !going {
         return false;
     }
-    let m = r.marks;
+    let m = marks_of(done);
     let digits = [
         digit(m[0]),
         digit(m[1]),
@@ -125,7 +159,7 @@ fn marked(to: Streams, going: bool, text: &[u8], r: Rendered) -> bool {
 fn marks(to: Streams, going: bool) -> bool {
     let mut block = [0.0f32; 8];
     let blank = voice_render::render(high(), parameters(100.0), &mut block);
-    let v = blank.voice;
+    let v = after_block(blank);
     let a = marked(to, going, b"marks of a blank block: ", blank);
     let sounding = voice_render::render(v, parameters(100.0), &mut block);
     let b = marked(to, a, b"marks of a sounding block: ", sounding);
@@ -139,18 +173,14 @@ fn marks(to: Streams, going: bool) -> bool {
 fn transposing(transpose: u8, on: bool) -> Voice {
     let mut packed = [0u8; 128];
     packed[117] = transpose;
-    let done = voice::set_transposing(loaded(&packed), on);
-    let v = done.voice;
-    v
+    after(voice::set_transposing(loaded(&packed), on))
 }
 
 // The note that a voice has after a blank block and a sounding one.
 fn played(to: Streams, going: bool, text: &[u8], v: Voice, note: f32) -> bool {
     let mut block = [0.0f32; 8];
-    let blank = voice_render::render(v, parameters(note), &mut block);
-    let w = blank.voice;
-    let sounding = voice_render::render(w, parameters(note), &mut block);
-    let x = sounding.voice;
+    let w = after_block(voice_render::render(v, parameters(note), &mut block));
+    let x = after_block(voice_render::render(w, parameters(note), &mut block));
     line(to, going, text, numbers::f32_as_u32(x.note) as u64)
 }
 
@@ -161,7 +191,7 @@ fn asked(to: Streams, going: bool, text: &[u8], v: Voice, note: f32) -> bool {
         to,
         going,
         text,
-        voice_render::render(v, parameters(note), &mut block).number as u64,
+        number_of_block(voice_render::render(v, parameters(note), &mut block)),
     )
 }
 
@@ -169,8 +199,7 @@ fn asked(to: Streams, going: bool, text: &[u8], v: Voice, note: f32) -> bool {
 fn transposes(to: Streams, going: bool) -> bool {
     let low = transposing(0, true);
     let high = transposing(48, true);
-    let taken = voice::take_patch(high);
-    let none = taken.voice;
+    let none = after(voice::take_patch(high));
     let a = played(
         to,
         going,
@@ -211,7 +240,7 @@ fn transposes(to: Streams, going: bool) -> bool {
 }
 
 fn taken_out(to: Streams, going: bool, text: &[u8], v: Voice) -> bool {
-    line(to, going, text, voice::take_patch(v).number as u64)
+    line(to, going, text, number_of(voice::take_patch(v)))
 }
 
 fn refusals(to: Streams, going: bool) -> bool {

@@ -18,7 +18,7 @@ use Rattle.algorithms.specs.Table.{six, tabled, row_of, with_row, compiled}
 use Rattle.algorithms.specs.declared.Compiled.{Compiled}
 use Rattle.std.specs.Prelude.{Result, Ok, Err}
 use Rattle.refusals.specs.declared.Refusal.{Refusal}
-use Rattle.refusals.specs.Answer.{number_given}
+use Rattle.refusals.specs.Answer.{number_given, number_told, state_after}
 use Rattle.algorithms_opcodes.specs.Opcodes.{six_operators}
 use Rattle.envelope_inner.specs.Envelope.{initialised, all_stages}
 use Rattle.lfo_inner.specs.declared.Lfo.{Lfo}
@@ -82,12 +82,12 @@ algorithm_of p t =
     let most = leb→le p.algorithm 31 fits in
     omega arith
 
-voice_fresh : voice.state_fits (voice.init_answer 6 (decimal 48000 0)).voice ≡ true
+voice_fresh : voice.state_fits (state_after (voice.init_answer 6 (decimal 48000 0))) ≡ true
 unfolding voice.state_fits voice.init_answer sample_rate_fits decimal le lt counted fresh_voice voice_with all_stages
     initialised
 voice_fresh = refl
 
-voice_six : (voice.init_answer 6 (decimal 48000 0)).voice.operators ≡ 6
+voice_six : (state_after (voice.init_answer 6 (decimal 48000 0))).operators ≡ 6
 unfolding voice.init_answer sample_rate_fits decimal le lt counted fresh_voice voice_with
 voice_six = refl
 
@@ -95,21 +95,20 @@ lfo_fresh : lfo.state_fits (lfo.init_answer (decimal 48000 0)).lfo ≡ true
 unfolding lfo.state_fits lfo.init_answer sample_rate_fits lfo.from_zero decimal le lt fresh_lfo
 lfo_fresh = refl
 
-loaded_number : (v : Voice) (p : Patch) (c : Result Compiled Refusal) → (voice.loaded v p c).number ≡ number_given c
-unfolding voice.loaded
+loaded_number : (v : Voice) (p : Patch) (c : Result Compiled Refusal) → number_told (voice.loaded v p c) ≡ number_given c
 loaded_number v p (Ok c) = refl
 loaded_number v p (Err e) = refl
 
 module _ (v : Voice) (p : Patch) (state : voice.state_fits v ≡ true) where
-  patch_taken : v.operators ≡ 6 → patch_fits p ≡ true → (voice.set_patch_answer v p six_operators).number ≡ 0
-  unfolding voice.set_patch_answer
+  patch_taken : v.operators ≡ 6 → patch_fits p ≡ true → number_told (voice.set_patch_answer v p six_operators) ≡ 0
+  unfolding voice.set_patch_answer voice.row_compiled
   patch_taken six fits =
       rw (state, fits, six)
       (loaded_number _ p (compiled 6 six_operators p.algorithm)
       ∙ row_accepted_lem 32 p.algorithm (subst T (sym all_accepted) tt) (algorithm_of p (subst T (sym fits) tt)))
 
-  patch_refused : patch_fits p ≡ false → (voice.set_patch_answer v p six_operators).number ≡ 6
-  unfolding voice.set_patch_answer
+  patch_refused : patch_fits p ≡ false → number_told (voice.set_patch_answer v p six_operators) ≡ 6
+  unfolding voice.set_patch_answer voice.row_compiled
   patch_refused fits = rw (state, fits) refl
 
 modulations_taken : (l : Lfo) (m : ModulationParameters) → lfo.state_fits l ≡ true

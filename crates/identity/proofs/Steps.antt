@@ -7,6 +7,9 @@ use Rattle.numbers.specs.F32.{decimal}
 use Rattle.sine.specs.Table.{lut_sine}
 use Rattle.sine.specs.Pairs.{sine_pairs}
 use Rattle.units.specs.Tables.{lut_pitch_ratio_high, lut_pitch_ratio_low}
+use Rattle.std.specs.Prelude.{Result}
+use Rattle.refusals.specs.declared.Refused.{Refused}
+use Rattle.refusals.specs.Answer.{number_told, state_after}
 use Rattle.patch.specs.declared.Patch.{Patch}
 use Rattle.algorithms_opcodes.specs.Opcodes.{six_operators}
 use Rattle.lfo.specs.declared.Prepared as LfoPrepared
@@ -14,12 +17,10 @@ use Rattle.lfo.specs.declared.Moved.{Moved}
 use Rattle.lfo.specs.declared.Read.{Read}
 use Rattle.lfo.specs.Answers as lfo
 use Rattle.voice.specs.declared.Voice.{Voice}
-use Rattle.voice.specs.declared.Prepared.{Prepared}
-use Rattle.voice.specs.declared.Loaded.{Loaded}
 use Rattle.voice.specs.Answers as voice
 use Rattle.voice_render.specs.declared.VoiceParameters.{VoiceParameters}
 use Rattle.voice_render.specs.declared.Rendered.{Rendered}
-use Rattle.voice_render.specs.Answers.{Answered, answered_by, render_answer}
+use Rattle.voice_render.specs.Answers.{Answered, answered_by, voice_rendered, render_answer}
 use Rattle.identity.specs.declared.Ready.{Ready}
 use Rattle.identity.specs.declared.Playing.{Playing}
 use Rattle.identity.specs.declared.Identified.{Identified}
@@ -48,38 +49,40 @@ unfolding hashed_samples
 hashed_next block n hash eh ew eg = rw (add-one n, eg, eh, ew) refl
 
 -- a voice with the patch, an LFO set to it and reset
-pub readied_of : (p : Patch) {table : List ℕ} {made : Prepared} {loaded : Loaded}
+pub readied_of : (p : Patch) {table : List ℕ} {made loaded : Result Voice (Refused Voice)} {fresh taken : Voice} {first : ℕ}
     {started set restarted : LfoPrepared.Prepared} {number : ℕ}
-    → table ≡ six_operators → made ≡ voice.init_answer 6 (decimal 48000 0)
-    → loaded ≡ voice.set_patch_answer made.voice p table
+    → table ≡ six_operators → made ≡ voice.init_answer 6 (decimal 48000 0) → fresh ≡ state_after made
+    → loaded ≡ voice.set_patch_answer fresh p table
     → started ≡ lfo.init_answer (decimal 48000 0) → set ≡ lfo.set_answer started.lfo p.modulations
     → restarted ≡ lfo.reset_answer set.lfo
-    → number ≡ cond (eqb loaded.number 0) set.number loaded.number
-    → record { number = number; voice = loaded.voice; lfo = restarted.lfo } ≡ readied p
+    → taken ≡ state_after loaded → first ≡ number_told loaded → number ≡ cond (eqb first 0) set.number first
+    → record { number = number; voice = taken; lfo = restarted.lfo } ≡ readied p
 unfolding readied
-readied_of p et em el es eset er en = rw (en, er, eset, es, el, em, et) refl
+readied_of p et em ef el es eset er ek en eu = rw (eu, en, ek, er, eset, es, el, ef, em, et) refl
 
 module _ (pairs high low : List Float) where
-  pub set_up_of : (v : Voice) (note : Float) {q : VoiceParameters} {r : Rendered} {block : List Float}
+  pub set_up_of : (v : Voice) (note : Float) {q : VoiceParameters} {r : Result Rendered (Refused Voice)}
+      {block : List Float}
       → q ≡ parameters_of note false (decimal 0 0) (decimal 0 0)
-      → answered_by r block ≡ render_answer pairs high low v q silence → r.voice ≡ set_up_for pairs high low v note
+      → answered_by r block ≡ render_answer pairs high low v q silence
+      → voice_rendered r ≡ set_up_for pairs high low v note
   unfolding set_up_for
-  set_up_of v note eq e = ap (λ (a : Answered). a.voice) (rw eq at e)
+  set_up_of v note eq e = ap (λ (a : Answered). voice_rendered a.answer) (rw eq at e)
 
 module _ (lut pairs high low : List Float) where
   pub block_played_of : (note : Float) (gate : Bool) (s : Playing) {m : Moved} {pitch amp : Read} {q : VoiceParameters}
-      {r : Rendered} {hash : ℕ} {block : List Float}
+      {r : Result Rendered (Refused Voice)} {v : Voice} {hash : ℕ} {block : List Float}
       → m ≡ lfo.step_answer lut s.lfo s.random (decimal 64 0) → pitch ≡ lfo.pitch_mod_answer m.lfo
       → amp ≡ lfo.amp_mod_answer m.lfo
       → q ≡ parameters_of note gate pitch.value amp.value
       → answered_by r block ≡ render_answer pairs high low s.voice q silence
-      → hash ≡ hashed_samples block 64 s.hash
-      → record { voice = r.voice; lfo = m.lfo; random = m.state; hash = hash }
+      → hash ≡ hashed_samples block 64 s.hash → v ≡ voice_rendered r
+      → record { voice = v; lfo = m.lfo; random = m.state; hash = hash }
       ≡ block_played lut pairs high low note gate s
   unfolding block_played
-  block_played_of note gate s em ep ea eq er eh =
+  block_played_of note gate s em ep ea eq er eh ev =
       let here = rw (eq, ep, ea, em) at er in
-      rw (eh, em, sym here) refl
+      rw (ev, eh, em, sym here) refl
 
   -- one block more
   pub played_next : (note : Float) (gate : Bool) (n : ℕ) (before : Playing) {s t : Playing}

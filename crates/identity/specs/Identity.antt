@@ -6,11 +6,12 @@ use Rattle.sine.specs.Pairs.{sine_pairs}
 use Rattle.units.specs.Tables.{lut_pitch_ratio_high, lut_pitch_ratio_low}
 use Rattle.patch.specs.declared.Patch.{Patch}
 use Rattle.algorithms_opcodes.specs.Opcodes.{six_operators}
+use Rattle.refusals.specs.Answer.{number_told, state_after}
 use Rattle.lfo.specs.Answers as lfo
 use Rattle.voice.specs.declared.Voice.{Voice}
 use Rattle.voice.specs.Answers as voice
 use Rattle.voice_render.specs.declared.VoiceParameters.{VoiceParameters}
-use Rattle.voice_render.specs.Answers.{render_answer}
+use Rattle.voice_render.specs.Answers.{voice_rendered, render_answer}
 use Rattle.identity.specs.declared.Ready.{Ready}
 use Rattle.identity.specs.declared.Playing.{Playing}
 use Rattle.identity.specs.declared.Identified.{Identified}
@@ -20,11 +21,11 @@ use Rattle.identity.specs.Hash.{hash_basis, hashed_samples}
 -- the number is the voice's or, where that is 0, the LFO's
 unfoldable pub readied : Patch → Ready
 readied p =
-    let v = voice.set_patch_answer (voice.init_answer 6 (decimal 48000 0)).voice p six_operators in
+    let v = voice.set_patch_answer (state_after (voice.init_answer 6 (decimal 48000 0))) p six_operators in
     let l = lfo.set_answer (lfo.init_answer (decimal 48000 0)).lfo p.modulations in
     record {
-      number = cond (v.number == 0) l.number v.number;
-      voice = v.voice;
+      number = cond (number_told v == 0) l.number (number_told v);
+      voice = state_after v;
       lfo = (lfo.reset_answer l.lfo).lfo;
     }
 
@@ -50,7 +51,7 @@ module _ (pairs high low : List Float) where
   -- a blank block sets the voice up: gate off, no modulation, the LFO does not step
   unfoldable pub set_up_for : Voice → Float → Voice
   set_up_for v note =
-      (render_answer pairs high low v (parameters_of note false (decimal 0 0) (decimal 0 0)) silence).voice
+      voice_rendered (render_answer pairs high low v (parameters_of note false (decimal 0 0) (decimal 0 0)) silence).answer
 
 module _ (lut pairs high low : List Float) where
   -- the LFO steps by 64, its modulations become the block's, and the block's samples are hashed
@@ -59,7 +60,7 @@ module _ (lut pairs high low : List Float) where
       let m = lfo.step_answer lut s.lfo s.random (decimal 64 0) in
       let p = parameters_of note gate (lfo.pitch_mod_answer m.lfo).value (lfo.amp_mod_answer m.lfo).value in
       let a = render_answer pairs high low s.voice p silence in
-      record { voice = a.voice; lfo = m.lfo; random = m.state; hash = hashed_samples a.block 64 s.hash }
+      record { voice = voice_rendered a.answer; lfo = m.lfo; random = m.state; hash = hashed_samples a.block 64 s.hash }
 
   -- so many blocks, one after the other
   unfoldable pub blocks_played : Float → Bool → ℕ → Playing → Playing

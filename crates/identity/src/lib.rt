@@ -5,14 +5,17 @@
 #![tactic(auto)]
 
 ghost use Rattle.std.specs.Prelude.{◌≡◌, ◌*◌, ◌%◌, ◌^◌, if◌then◌else◌, nat_eq};
+ghost use Rattle.refusals.specs.Answer.{number_told, state_after};
+ghost use Rattle.voice_render.specs.Answers.{voice_rendered};
 ghost use Rattle.identity.specs.Hash.{hashed_byte, hashed_word, hashed_samples};
 ghost use Rattle.identity.specs.Identity.{readied, parameters_of, set_up_for, block_played, blocks_played, note_played};
 ghost use Rattle.identity.specs.Identity.{notes_played, identity_of};
 
 use lfo_inner::Lfo;
 use patch::Patch;
+use refusals::Refused;
 use voice::Voice;
-use voice_render::VoiceParameters;
+use voice_render::{Rendered, VoiceParameters};
 
 const HASH_BASIS: u64 = 0xcbf2_9ce4_8422_2325;
 
@@ -85,12 +88,41 @@ fn first_number(a: u8, b: u8) -> u8
     if a == 0 { b } else { a }
 }
 
+// The voice that an answer leaves.
+fn voice_after(done: Result<Voice, Refused<Voice>>) -> Voice
+    ensures { result ≡ state_after done }
+{
+    match done {
+        Ok(v) => v,
+        Err(e) => e.state,
+    }
+}
+
+// The number of an answer: 0 for one that is no refusal.
+fn number_of(done: Result<Voice, Refused<Voice>>) -> u8
+    ensures { result ≡ number_told done }
+{
+    match done {
+        Ok(_) => 0,
+        Err(e) => e.refusal.number(),
+    }
+}
+
+// The voice that a block leaves.
+fn voice_rendered(done: Result<Rendered, Refused<Voice>>) -> Voice
+    ensures { result ≡ voice_rendered done }
+{
+    match done {
+        Ok(r) => r.voice,
+        Err(e) => e.state,
+    }
+}
+
 fn prepare(patch: Patch) -> Ready
     ensures { result ≡ readied patch }
 {
     let table = algorithms_opcodes::opcodes_6_32();
-    let made = voice::init(6, 48000.0);
-    let fresh = made.voice;
+    let fresh = voice_after(voice::init(6, 48000.0));
     let loaded = voice::set_patch(fresh, patch, &table);
     let started = lfo::init(48000.0);
     let at_rest = started.lfo;
@@ -98,10 +130,10 @@ fn prepare(patch: Patch) -> Ready
     let set = lfo::set(at_rest, modulations);
     let adjusted = set.lfo;
     let restarted = lfo::reset(adjusted);
-    let voice = loaded.voice;
+    let voice = voice_after(loaded);
     let lfo = restarted.lfo;
     Ready {
-        number: first_number(loaded.number, set.number),
+        number: first_number(number_of(loaded), set.number),
         voice,
         lfo,
     }
@@ -146,7 +178,7 @@ fn play_block(
     let mut block = [0.0f32; 256];
     let rendered = voice_render::render_with(pairs, high, low, v, p, &mut block);
     let hash = hash_output(&block, s.hash);
-    let voice = rendered.voice;
+    let voice = voice_rendered(rendered);
     Playing {
         voice,
         lfo,
@@ -185,7 +217,7 @@ fn set_up(pairs: &[f32; 1024], high: &[f32; 256], low: &[f32; 256], v: Voice, no
     let p = parameters(note, false, 0.0, 0.0);
     let mut block = [0.0f32; 256];
     let rendered = voice_render::render_with(pairs, high, low, v, p, &mut block);
-    rendered.voice
+    voice_rendered(rendered)
 }
 
 // A note from the beginning, and the hash after it.

@@ -6,10 +6,12 @@
 ghost use Rattle.std.specs.Prelude.{◌<◌};
 
 use dx_units_inner::Ratio;
+use dx_units_step::Mark;
 use judge_wire::{Answer, Fields};
 use operator::{Feedback, Operator};
 use patch::Patch;
-use voice::{Loaded, Prepared, Voice};
+use refusals::{Refusal, Refused};
+use voice::Voice;
 use voice_render::{Rendered, VoiceParameters};
 
 // The bytes of a voice, and the numbers of the longest block.
@@ -56,14 +58,27 @@ pub fn answer(entry: u8, fields: &mut Fields<'_>, kept: &mut Voice, out: &mut An
     }
 }
 
+// The voice that a caller goes on with, and the refusal if it is one.
+fn parted(done: Result<Voice, Refused<Voice>>) -> (Voice, Option<Refusal>) {
+    match done {
+        Ok(v) => (v, None),
+        Err(e) => (e.state, Some(e.refusal)),
+    }
+}
+
+// 0 for an answer that is no refusal.
+fn number_of(refusal: Option<Refusal>) -> u8 {
+    refusal.map_or(0, |r| r.number())
+}
+
 fn prepare(entry: u8, fields: &mut Fields<'_>, kept: &mut Voice, out: &mut Answer<'_>) {
-    let done = prepared(entry, fields, *kept);
-    *kept = done.voice;
-    out.byte(done.number);
+    let (v, refusal) = parted(prepared(entry, fields, *kept));
+    *kept = v;
+    out.byte(number_of(refusal));
     put_voice(out, kept);
 }
 
-fn prepared(entry: u8, fields: &mut Fields<'_>, v: Voice) -> Prepared {
+fn prepared(entry: u8, fields: &mut Fields<'_>, v: Voice) -> Result<Voice, Refused<Voice>> {
     match entry {
         0x80 => voice::init(fields.word() as usize, fields.float()),
         0x8a => voice::set_transposing(v, fields.flag()),
@@ -72,14 +87,15 @@ fn prepared(entry: u8, fields: &mut Fields<'_>, v: Voice) -> Prepared {
 }
 
 fn set(entry: u8, fields: &mut Fields<'_>, kept: &mut Voice, out: &mut Answer<'_>) {
-    let done = loaded(entry, fields, *kept);
-    *kept = done.voice;
-    out.bytes(&[done.number, done.at]);
+    let (v, refusal) = parted(loaded(entry, fields, *kept));
+    *kept = v;
+    out.byte(number_of(refusal));
+    out.byte(refusal.map_or(0, |r| r.place()));
     put_voice(out, kept);
 }
 
 // The patch's fields and a table; packed bytes and a stored table; packed bytes and a row, which is a table of its own.
-fn loaded(entry: u8, fields: &mut Fields<'_>, v: Voice) -> Loaded {
+fn loaded(entry: u8, fields: &mut Fields<'_>, v: Voice) -> Result<Voice, Refused<Voice>> {
     match entry {
         0x81 => voice::set_patch(v, judge_patches::read_patch(fields), fields.slice()),
         0x82 => set_stored(v, unpacked(fields.part(128)), fields.byte()),
@@ -96,7 +112,7 @@ fn unpacked(bytes: &[u8]) -> Patch {
 }
 
 // The Rust's table for so many operators, 0 for the voice's own number; an empty one for another number.
-fn set_stored(v: Voice, p: Patch, which: u8) -> Loaded {
+fn set_stored(v: Voice, p: Patch, which: u8) -> Result<Voice, Refused<Voice>> {
     let operators = if which == 0 {
         v.operators
     } else {
@@ -118,32 +134,24 @@ fn bend(fields: &mut Fields<'_>, kept: &mut Voice, out: &mut Answer<'_>) {
     let keeps = fields.flag();
     let mut bytes = written(kept);
     bytes[place] = byte;
-    let done = tried(way, read_voice(&mut Fields::new(&bytes)));
-    out.byte(done.number);
-    put_voice(out, &done.voice);
+    let (v, refusal) = parted(tried(way, read_voice(&mut Fields::new(&bytes))));
+    out.byte(number_of(refusal));
+    put_voice(out, &v);
     if keeps {
-        *kept = done.voice;
+        *kept = v;
     }
 }
 
-fn tried(way: u8, v: Voice) -> Prepared {
+fn tried(way: u8, v: Voice) -> Result<Voice, Refused<Voice>> {
     match way {
-        0 => tried_set(v),
+        0 => set_stored(v, unpacked(&[0u8; 128]), 0),
         1 => voice::take_patch(v),
         _ => tried_block(v),
     }
 }
 
-fn tried_set(v: Voice) -> Prepared {
-    let done = set_stored(v, unpacked(&[0u8; 128]), 0);
-    Prepared {
-        number: done.number,
-        voice: done.voice,
-    }
-}
-
 // Four samples at a gate.
-fn tried_block(v: Voice) -> Prepared {
+fn tried_block(v: Voice) -> Result<Voice, Refused<Voice>> {
     let mut block = [0.0f32; 16];
     let p = VoiceParameters {
         sustain: false,
@@ -155,26 +163,34 @@ fn tried_block(v: Voice) -> Prepared {
         pitch_mod: 0.0,
         amp_mod: 0.0,
     };
-    let done = voice_render::render(v, p, &mut block);
-    Prepared {
-        number: done.number,
-        voice: done.voice,
-    }
+    Ok(voice_render::render(v, p, &mut block)?.voice)
 }
 
 fn set_up(kept: &mut Voice, out: &mut Answer<'_>) {
-    let done = voice_render::setup(*kept);
-    *kept = done.voice;
-    out.byte(done.number);
-    out.flag(done.was_dirty);
+    match voice_render::setup(*kept) {
+        Ok(r) => {
+            *kept = r.voice;
+            out.byte(0);
+            out.flag(r.was_dirty);
+        }
+        Err(e) => {
+            *kept = e.state;
+            out.byte(e.refusal.number());
+            out.flag(false);
+        }
+    }
     put_voice(out, kept);
 }
 
+// Whether there is a patch, and it; the zero patch where there is none.
 fn tell_patch(v: Voice, out: &mut Answer<'_>) {
-    let done = voice::patch(v);
-    out.byte(done.number);
-    out.flag(done.has);
-    judge_patches::put_patch(out, &done.patch);
+    let (patch, refusal) = match voice::patch(v) {
+        Ok(patch) => (patch, None),
+        Err(refusal) => (None, Some(refusal)),
+    };
+    out.byte(number_of(refusal));
+    out.flag(patch.is_some());
+    judge_patches::put_patch(out, &patch.unwrap_or(Patch::new()));
 }
 
 // Renders in the first part of a block, as long as the call says or as there is room.
@@ -193,18 +209,36 @@ fn render(entry: u8, fields: &mut Fields<'_>, kept: &mut Voice, out: &mut Answer
     } else {
         fill_seeded(block, fields.word());
     }
-    let done = rendered(given, *kept, p, block);
-    *kept = done.voice;
-    out.byte(done.number);
-    for mark in &done.marks {
-        judge_units::put_mark(out, *mark);
-    }
+    put_number_and_marks(rendered(given, *kept, p, block), kept, out);
     if entry == 0x89 {
         out.eight(digest(block, &written(kept)));
     } else {
         out.length(block.len());
         out.floats(block);
         put_voice(out, kept);
+    }
+}
+
+// A refused block's marks are all as asked.
+fn put_number_and_marks(
+    done: Result<Rendered, Refused<Voice>>,
+    kept: &mut Voice,
+    out: &mut Answer<'_>,
+) {
+    let marks = match done {
+        Ok(r) => {
+            *kept = r.voice;
+            out.byte(0);
+            r.marks
+        }
+        Err(e) => {
+            *kept = e.state;
+            out.byte(e.refusal.number());
+            [Mark::AsAsked; 6]
+        }
+    };
+    for mark in &marks {
+        judge_units::put_mark(out, *mark);
     }
 }
 
@@ -241,7 +275,12 @@ fn read_parameters(fields: &mut Fields<'_>) -> VoiceParameters {
 }
 
 // Given blocks are rendered by the entry that makes its tables, seeded ones by that which is lent them.
-fn rendered(given: bool, v: Voice, p: VoiceParameters, block: &mut [f32]) -> Rendered {
+fn rendered(
+    given: bool,
+    v: Voice,
+    p: VoiceParameters,
+    block: &mut [f32],
+) -> Result<Rendered, Refused<Voice>> {
     if given {
         return voice_render::render(v, p, block);
     }
@@ -302,7 +341,7 @@ pub fn read_voice(fields: &mut Fields<'_>) -> Voice {
 
 // What stands before the envelopes, in a voice that is as a refused start leaves it.
 fn read_start(fields: &mut Fields<'_>) -> Voice {
-    let mut v = voice::init(0, 0.0).voice;
+    let (mut v, _refusal) = parted(voice::init(0, 0.0));
     v.operators = fields.word() as usize;
     v.sample_rate = fields.float();
     v.one_hz = fields.float();

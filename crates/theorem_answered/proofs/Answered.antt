@@ -22,6 +22,7 @@ use Rattle.lfo_inner.specs.declared.Lfo.{Lfo}
 use Rattle.lfo.specs.Answers as lfo
 use Rattle.lfo.specs.Calls.{Valid}
 use Rattle.lfo.proofs.Calls.{init_valid}
+use Rattle.refusals.specs.Answer.{number_told, state_after}
 use Rattle.voice.specs.declared.Voice.{Voice}
 use Rattle.voice.specs.Answers.{state_fits, init_answer, set_patch_answer}
 use Rattle.voice.proofs.Kept.{init_fits, set_patch_keeps}
@@ -29,7 +30,8 @@ use Rattle.voice.proofs.Switch.{init_off, set_patch_switch}
 use Rattle.voice_render.specs.declared.VoiceParameters.{VoiceParameters}
 use Rattle.voice_render.specs.Setup.{set_up}
 use Rattle.voice_render.specs.Block.{played_by, sounded}
-use Rattle.voice_render.specs.Answers.{block_fits, parameters_fit, unsounded, sounding, render_answer}
+use Rattle.voice_render.specs.Answers.{block_fits, parameters_fit, blank, sounding}
+use Rattle.voice_render.specs.Answers.{voice_rendered, render_answer}
 use Rattle.voice_render.proofs.Kept.{render_keeps}
 use Rattle.voice_render.proofs.Switch.{fits_as_given, render_switch}
 use Rattle.identity.specs.declared.Ready.{Ready}
@@ -72,21 +74,22 @@ pub record Plain (v : Voice) : Type 0 where
 
 -- neither 9 nor 8 nor 7
 render_answered : (pairs high low : List Float) (v : Voice) (p : VoiceParameters) (block : List Float) → Plain v
-    → block_fits (length block) ≡ true → parameters_fit p ≡ true → (render_answer pairs high low v p block).number ≡ 0
+    → block_fits (length block) ≡ true → parameters_fit p ≡ true
+    → number_told (render_answer pairs high low v p block).answer ≡ 0
 unfolding render_answer
 render_answered pairs high low v p block t size fit =
     let asked = fits_as_given v p (ap (λ (b : Bool). b && v.has_patch) t.off) in
     rw (is_true (state_fits v) t.fits, size, asked, fit) (go v.dirty)
   where
     go : (b : Bool)
-        → (cond b (unsounded 0 (set_up high low v) block) (sounding (sounded pairs high low v (played_by v p) block))
-        ).number ≡ 0
+        → number_told (cond b (blank (set_up high low v) block)
+        (sounding (sounded pairs high low v (played_by v p) block))).answer ≡ 0
     go true = refl
     go false = refl
 
 -- any block leaves such a voice
 render_plain : (pairs high low : List Float) (v : Voice) (p : VoiceParameters) (block : List Float) → Plain v
-    → Plain (render_answer pairs high low v p block).voice
+    → Plain (voice_rendered (render_answer pairs high low v p block).answer)
 render_plain pairs high low v p block t = record {
   fits = (render_keeps v t.fits pairs high low p block).0;
   off = render_switch pairs high low v p block ∙ t.off;
@@ -166,7 +169,7 @@ six_counted = tt
 ready_plain : (p : Patch) → Plain (readied p).voice
 unfolding readied
 ready_plain p =
-    let fresh = (init_answer 6 (decimal 48000 0)).voice in
+    let fresh = state_after (init_answer 6 (decimal 48000 0)) in
     record {
       fits = (set_patch_keeps fresh (init_fits 6 (decimal 48000 0) six_counted rate_accepted) p six_operators).0;
       off = set_patch_switch fresh p six_operators ∙ init_off 6 (decimal 48000 0);
@@ -194,7 +197,7 @@ both_zero a b e = go (eqb a 0) refl e
     go true h z = (eqb-true a 0 h, z)
     go false h z = absurd (eqb-false a 0 h z)
 
-inits_answered : ((init_answer 6 (decimal 48000 0)).number ≡ 0) × ((lfo.init_answer (decimal 48000 0)).number ≡ 0)
+inits_answered : (number_told (init_answer 6 (decimal 48000 0)) ≡ 0) × ((lfo.init_answer (decimal 48000 0)).number ≡ 0)
 unfolding init_answer lfo.init_answer
 inits_answered =
     rw (is_true (counted 6) six_counted, is_true (sample_rate_fits (decimal 48000 0)) rate_accepted) (refl, refl)
@@ -207,9 +210,9 @@ reset_answered l v = rw (is_true (lfo.state_fits l) v.accepted) refl
 pub ready_answered_lem : (p : Patch) → (readied p).number ≡ 0 → ready_answered p ≡ true
 unfolding readied ready_answered
 ready_answered_lem p e =
-    let v = set_patch_answer (init_answer 6 (decimal 48000 0)).voice p six_operators in
+    let v = set_patch_answer (state_after (init_answer 6 (decimal 48000 0))) p six_operators in
     let l = lfo.set_answer (lfo.init_answer (decimal 48000 0)).lfo p.modulations in
-    let set = both_zero v.number l.number e in
+    let set = both_zero (number_told v) l.number e in
     let reset = reset_answered l.lfo (set_keeps p.modulations _ (init_valid (decimal 48000 0) rate_accepted)) in
     together
     (together

@@ -7,6 +7,7 @@ use Rattle.sine.specs.Pairs.{sine_pairs}
 use Rattle.units.specs.Tables.{lut_pitch_ratio_high, lut_pitch_ratio_low}
 use Rattle.patch.specs.declared.Patch.{Patch}
 use Rattle.algorithms_opcodes.specs.Opcodes.{six_operators}
+use Rattle.refusals.specs.Answer.{number_told, state_after}
 use Rattle.lfo.specs.Answers as lfo
 use Rattle.voice.specs.declared.Voice.{Voice}
 use Rattle.voice.specs.Answers as voice
@@ -24,10 +25,10 @@ answered number = eqb number 0
 unfoldable pub ready_answered : Patch → Bool
 ready_answered p =
     let made = voice.init_answer 6 (decimal 48000 0) in
-    let v = voice.set_patch_answer made.voice p six_operators in
+    let v = voice.set_patch_answer (state_after made) p six_operators in
     let started = lfo.init_answer (decimal 48000 0) in
     let l = lfo.set_answer started.lfo p.modulations in
-    answered made.number && answered v.number && answered started.number && answered l.number
+    answered (number_told made) && answered (number_told v) && answered started.number && answered l.number
     && answered (lfo.reset_answer l.lfo).number
 
 module _ (pairs high low : List Float) where
@@ -35,7 +36,7 @@ module _ (pairs high low : List Float) where
   unfoldable pub set_up_answered : Voice → Float → Bool
   set_up_answered v note =
       let p = parameters_of note false (decimal 0 0) (decimal 0 0) in
-      answered (render_answer pairs high low v p silence).number
+      answered (number_told (render_answer pairs high low v p silence).answer)
 
 module _ (lut pairs high low : List Float) where
   -- the four calls of `block_played`: the LFO's step, its two readings and the voice's block
@@ -45,7 +46,7 @@ module _ (lut pairs high low : List Float) where
       let p = parameters_of note gate (lfo.pitch_mod_answer m.lfo).value (lfo.amp_mod_answer m.lfo).value in
       let a = render_answer pairs high low s.voice p silence in
       answered m.number && answered (lfo.pitch_mod_answer m.lfo).number
-      && answered (lfo.amp_mod_answer m.lfo).number && answered a.number
+      && answered (lfo.amp_mod_answer m.lfo).number && answered (number_told a.answer)
 
   -- so many blocks, one after the other
   unfoldable pub blocks_answered : Float → Bool → ℕ → Playing → Bool

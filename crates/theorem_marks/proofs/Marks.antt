@@ -19,7 +19,7 @@ use Rattle.voice_render.specs.Block.{played_by, levels_for, marks_for, sounded}
 use Rattle.voice_render.specs.Answers.{block_fits, parameters_fit_for, render_answer}
 use Rattle.voice_render.proofs.Blocks.{count_at_most_6, block_whole}
 use Rattle.voice_render.proofs.Alike.{answer_by}
-use Rattle.theorem_marks.specs.Marks.{refused, untold, frequency_in, mark_in}
+use Rattle.theorem_marks.specs.Marks.{marks_told, refused, untold, frequency_in, mark_in}
 use Rattle.theorem_marks.proofs.Levels.{all_as_asked_lem, marks_length, mark_of, mark_behind}
 
 -- an accepted block is empty where its quarters are
@@ -59,12 +59,12 @@ module _ (pairs high low : List Float) (v : Voice) (p : VoiceParameters) (block 
 
   -- every mark of a block
   pub block_mark : (k : ℕ)
-      → get_or (render_answer pairs high low v p block).marks k AsAsked ≡ mark_in high low v p block k
+      → get_or (marks_told (render_answer pairs high low v p block).answer) k AsAsked ≡ mark_in high low v p block k
   unfolding render_answer sounded mark_in untold refused
   block_mark k = go (state_fits v) (block_fits (length block)) (parameters_fit_for v p) v.dirty refl refl
     where
       go : (state size fit dirty : Bool) → state_fits v ≡ state → block_fits (length block) ≡ size
-          → get_or (answer_by pairs high low v q block state size fit dirty).marks k AsAsked
+          → get_or (marks_told (answer_by pairs high low v q block state size fit dirty).answer) k AsAsked
           ≡ cond (not (state && size && fit) || dirty || eqb (length block) 0 || leb v.operators k) AsAsked
           (mark_for (frequency_in high low v p block k))
       go true true true false s z =
@@ -75,7 +75,7 @@ module _ (pairs high low : List Float) (v : Voice) (p : VoiceParameters) (block 
       go false size fit dirty s z = all_as_asked_lem k
 
   -- and there are six
-  pub six_marks : length (render_answer pairs high low v p block).marks ≡ 6
+  pub six_marks : length (marks_told (render_answer pairs high low v p block).answer) ≡ 6
   unfolding render_answer sounded marks_for levels_for all_as_asked
   six_marks = go (state_fits v) (block_fits (length block)) (parameters_fit_for v p) v.dirty
     where
@@ -83,7 +83,8 @@ module _ (pairs high low : List Float) (v : Voice) (p : VoiceParameters) (block 
       told true = refl
       told false = marks_length _ _ _ _ _ _ v.operators
 
-      go : (state size fit dirty : Bool) → length (answer_by pairs high low v q block state size fit dirty).marks ≡ 6
+      go : (state size fit dirty : Bool)
+          → length (marks_told (answer_by pairs high low v q block state size fit dirty).answer) ≡ 6
       go true true true false = told (eqb n 0)
       go true true true true = refl
       go true true false dirty = refl

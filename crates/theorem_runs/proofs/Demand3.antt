@@ -2,7 +2,7 @@
 -- alike, refused and blank blocks included. Assumes nothing, of the state or of the calls.
 use mathlib.Core.Path.{◌≡◌, refl, ap}
 use mathlib.Core.List.{List, [], ◌∷◌, map}
-use Rattle.voice_render.specs.Answers.{Answered}
+use Rattle.voice_render.specs.Answers.{Answered, voice_rendered}
 use Rattle.voice_render.proofs.Alike.{rendered_alike}
 use Rattle.theorem_runs.specs.VoiceCalls as voice
 use Rattle.theorem_runs.specs.Run.{Call, FromVoice, State, Step, with_voice, step_of, run, ending}
@@ -12,7 +12,7 @@ use Rattle.theorem_runs.specs.Alike.{Alike, equal, blocks, AllAlike, none, more,
 
 -- a block's answer stored
 abbrev rendered : State → Answered → Step
-rendered s a = record { answer = FromVoice (voice.Renders a); state = with_voice s a.voice }
+rendered s a = record { answer = FromVoice (voice.Renders a); state = with_voice s (voice_rendered a.answer) }
 
 pub step_alike : (s : State) {c d : Call} → Alike c d → heard (step_of c s) ≡ heard (step_of d s)
 unfolding heard step_of voice.answer_to

@@ -10,6 +10,7 @@ use Rattle.lfo_inner.specs.declared.Lfo.{Lfo}
 use Rattle.lfo.specs.Answers as LfoAnswers
 use Rattle.lfo.specs.Calls as lfo
 use Rattle.lfo.proofs.Calls as LfoLaws
+use Rattle.refusals.specs.Answer.{number_told}
 use Rattle.voice.specs.declared.Voice.{Voice}
 use Rattle.voice.specs.Voice.{no_voice}
 use Rattle.voice.specs.Answers.{state_fits, init_answer, set_patch_answer, take_patch_answer, patch_answer}
@@ -62,7 +63,7 @@ voice_stays v e s h (StartLfo stores rate) t = unfold step_of in (h, tt)
 voice_stays v e s h (OfLfo call) t = unfold step_of in (h, tt)
 
 -- after a refused start that is stored, until the next start
-pub voice_lost : (operators : ℕ) (rate : Float) → ((init_answer operators rate).number ≡ 0 → ⊥)
+pub voice_lost : (operators : ℕ) (rate : Float) → (number_told (init_answer operators rate) ≡ 0 → ⊥)
     → (s : State) (calls : List Call) → T (each keeps_voice calls)
     → let lost = (step_of (Start true operators rate) s).state in
     ((ending calls lost).voice ≡ no_voice) × T (throughout voice_nine calls (run calls lost))

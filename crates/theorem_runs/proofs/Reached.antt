@@ -14,9 +14,10 @@ use Rattle.lfo.specs.Answers as LfoAnswers
 use Rattle.lfo.specs.Calls.{Valid}
 use Rattle.lfo.proofs.Calls as lfo
 use Rattle.patch_limits.specs.Ranges.{sample_rate_fits}
+use Rattle.refusals.specs.Answer.{number_told, state_after}
 use Rattle.voice.specs.declared.Voice.{Voice}
 use Rattle.voice.specs.Answers.{state_fits, init_answer}
-use Rattle.voice.proofs.Kept.{Kept, init_fits, init_keeps, set_patch_keeps, take_patch_keeps, patch_no_nine}
+use Rattle.voice.proofs.Kept.{NoNine, init_fits, init_keeps, set_patch_keeps, take_patch_keeps, patch_no_nine}
 use Rattle.voice.proofs.Kept.{set_transposing_keeps}
 use Rattle.voice_render.proofs.Kept.{setup_keeps, render_keeps}
 use Rattle.theorem_runs.specs.VoiceCalls as voice
@@ -67,7 +68,7 @@ stored_has Has stores number new old h f = go stores (eqb number 0) refl
     go false false e t = h
 
 voice_keeps : (v : Voice) → T (state_fits v) → (call : voice.Call)
-    → Kept (voice.voice_after v (voice.answer_to call v)) (voice.number_of (voice.answer_to call v))
+    → T (state_fits (voice.voice_after v (voice.answer_to call v))) × NoNine (voice.number_of (voice.answer_to call v))
 unfolding voice.answer_to
 voice_keeps v t (voice.SetPatch p table) = set_patch_keeps v t p table
 voice_keeps v t voice.TakePatch = take_patch_keeps v t
@@ -82,7 +83,7 @@ unfolding step_of careful not_nine is_nine
 step_keeps s g (Start stores operators rate) t =
     let a = init_answer operators rate in
     let k = init_keeps operators rate in
-    let v = stored_has (λ v. T (state_fits v)) stores a.number a.voice s.voice g.voice k.1 t in
+    let v = stored_has (λ v. T (state_fits v)) stores (number_told a) (state_after a) s.voice g.voice k.1 t in
     (record { voice = v; lfo = g.lfo }, k.0)
 step_keeps s g (OfVoice call) t =
     let k = voice_keeps s.voice g.voice call in

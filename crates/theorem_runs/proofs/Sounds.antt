@@ -60,7 +60,7 @@ use Rattle.voice_levels.specs.Levels.{amplitude_of, leveled, leveled_to}
 use Rattle.voice_levels.specs.Levels as levels
 use Rattle.voice_note.specs.Note.{played_note}
 use Rattle.patch_limits.specs.Ranges.{sample_rate_fits}
-use Rattle.voice.specs.Answers.{patch_sound, state_fits, init_answer, loaded, set_patch_answer}
+use Rattle.voice.specs.Answers.{patch_sound, state_fits, init_answer, row_compiled, set_patch_answer}
 use Rattle.voice.specs.Voice.{voice_with, fresh_voice, with_patch}
 use Rattle.voice_render.specs.Answers.{block_fits, parameters_fit, parameters_fit_for, render_answer}
 use Rattle.voice_render.specs.Block.{played_by, note_on, struck, begun, entering, after, levels_for, played}
@@ -111,7 +111,7 @@ unfolding neg add sub mul div lt eq le ne is_nan of_int to_unsigned to_signed of
     headroom_of operator_set_up set_up_to setup.put_at
     timing_for followed note_frequency frequency_by brightness_of scaling_of amplitude_of leveled leveled_to all_stages
     levels.put_at
-    sample_rate_fits patch_sound state_fits block_fits parameters_fit parameters_fit_for init_answer loaded
+    sample_rate_fits patch_sound state_fits block_fits parameters_fit parameters_fit_for init_answer row_compiled
     set_patch_answer
     render_answer played_note played_by note_on struck begun entering after levels_for played block.sounded
     voice_with fresh_voice with_patch with_setup set_up

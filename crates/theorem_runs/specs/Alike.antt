@@ -22,7 +22,6 @@ pub data AllAlike : List Call → List Call → Type 0 where
 -- a voice's answer, a block's without the scratch
 abbrev pub heard_voice : voice.Answer → voice.Answer
 heard_voice (voice.Prepares a) = voice.Prepares a
-heard_voice (voice.Loads a) = voice.Loads a
 heard_voice (voice.Tells a) = voice.Tells a
 heard_voice (voice.Readies a) = voice.Readies a
 heard_voice (voice.Renders a) = voice.Renders (heard_of a)

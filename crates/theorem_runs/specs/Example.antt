@@ -90,7 +90,6 @@ numbers_of (t ∷ ts) = number_of t.answer ∷ numbers_of ts
 -- the output of a call: nothing where it is no block
 abbrev pub output_of : Answer → List Float
 output_of (FromVoice (voice.Prepares a)) = []
-output_of (FromVoice (voice.Loads a)) = []
 output_of (FromVoice (voice.Tells a)) = []
 output_of (FromVoice (voice.Readies a)) = []
 output_of (FromVoice (voice.Renders a)) = output a.block

@@ -3,6 +3,7 @@
 use Rattle.std.specs.Prelude.{Bool, true, false, not, ◌&&◌, ◌||◌, List, [], ◌∷◌, ℕ, T, eqb, Float}
 use Rattle.lfo.specs.Calls.{Valid}
 use Rattle.lfo.specs.Answers as lfo
+use Rattle.refusals.specs.Answer.{number_told, state_after}
 use Rattle.voice.specs.Answers.{state_fits, init_answer}
 use Rattle.theorem_runs.specs.Run.{Call, Start, OfVoice, StartLfo, OfLfo, number_of, State, Step}
 
@@ -14,7 +15,7 @@ pub record Good (s : State) : Type 0 where
 -- what a voice and an LFO start from
 unfoldable pub fresh : ℕ → Float → Float → State
 fresh operators rate lfo_rate =
-    record { voice = (init_answer operators rate).voice; lfo = (lfo.init_answer lfo_rate).lfo }
+    record { voice = state_after (init_answer operators rate); lfo = (lfo.init_answer lfo_rate).lfo }
 
 -- ---- a test of every call of a list, and of what every call of a run gave
 
@@ -29,7 +30,7 @@ throughout test (call ∷ calls) (t ∷ ts) = test call t && throughout test cal
 
 -- no refused start's voice or LFO is stored
 unfoldable pub careful : Call → Bool
-careful (Start stores operators rate) = not stores || eqb (init_answer operators rate).number 0
+careful (Start stores operators rate) = not stores || eqb (number_told (init_answer operators rate)) 0
 careful (OfVoice call) = true
 careful (StartLfo stores rate) = not stores || eqb (lfo.init_answer rate).number 0
 careful (OfLfo call) = true

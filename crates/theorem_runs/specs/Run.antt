@@ -4,6 +4,7 @@ use Rattle.std.specs.Prelude.{ℕ, Bool, cond, ◌||◌, List, [], ◌∷◌, eq
 use Rattle.lfo_inner.specs.declared.Lfo.{Lfo}
 use Rattle.lfo.specs.Answers as LfoAnswers
 use Rattle.lfo.specs.Calls as lfo
+use Rattle.refusals.specs.Answer.{number_told, state_after}
 use Rattle.voice.specs.declared.Voice.{Voice}
 use Rattle.voice.specs.Answers.{init_answer}
 use Rattle.theorem_runs.specs.VoiceCalls as voice
@@ -49,7 +50,7 @@ stored stores number new old = cond (stores || eqb number 0) new old
 unfoldable pub step_of : Call → State → Step
 step_of (Start stores operators rate) s =
     let a = init_answer operators rate in
-    let v = stored stores a.number a.voice s.voice in
+    let v = stored stores (number_told a) (state_after a) s.voice in
     record { answer = FromVoice (voice.Prepares a); state = with_voice s v }
 step_of (OfVoice call) s =
     let a = voice.answer_to call s.voice in

@@ -364,12 +364,12 @@ module _ {M : Type 1} {𝓤 : Ura M} (𝓛 : Logic 𝓤) (mem : Memory → SProp
   -- a block: the answer, and the whole block
   pub voice_render_settled : Settled 𝓤 voice-render.ended (voice-render.clauses 𝓛 mem run)
   voice_render_settled κs a g z y ws vs = both 𝓤 _ _ _ (λ p q. let e = p ∙ sym q in (
-    ap (λ (x : Answered). record { number = x.number; marks = x.marks; voice = x.voice }) e,
+    ap (λ (x : Answered). x.answer) e,
     ap (λ (x : Answered). (tt, (tt, (x.block, tt)))) e,
   ))
 
   pub voice_render_with_settled : Settled 𝓤 voice-render-with.ended (voice-render-with.clauses 𝓛 mem run)
   voice_render_with_settled κs a g z y ws vs = both 𝓤 _ _ _ (λ p q. let e = p ∙ sym q in (
-    ap (λ (x : Answered). record { number = x.number; marks = x.marks; voice = x.voice }) e,
+    ap (λ (x : Answered). x.answer) e,
     ap (λ (x : Answered). (tt, (tt, (tt, (tt, (tt, (x.block, tt))))))) e,
   ))

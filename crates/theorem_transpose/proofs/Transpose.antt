@@ -7,6 +7,7 @@ use native.Mathlib.Omega.{arith}
 use lib.Dec.{T}
 use lib.ListN.{length}
 use lib.Ieee.{Float}
+use Rattle.refusals.specs.Answer.{number_told}
 use Rattle.patch_limits.specs.Ranges.{note_fits}
 use Rattle.voice_note.specs.Note.{played_note}
 use Rattle.envelope_inner.specs.declared.Envelope.{Envelope}
@@ -17,7 +18,7 @@ use Rattle.voice_render.specs.declared.VoiceParameters.{VoiceParameters}
 use Rattle.voice_render.specs.Setup.{with_setup, set_up}
 use Rattle.voice_render.specs.Block.{played_by, note_on, struck, begun, entering, after, levels_for, marks_for, played}
 use Rattle.voice_render.specs.Block.{sounded}
-use Rattle.voice_render.specs.Answers.{block_fits, parameters_fit, parameters_fit_for, Answered, unsounded, sounding}
+use Rattle.voice_render.specs.Answers.{block_fits, parameters_fit, parameters_fit_for, Answered, blank, sounding}
 use Rattle.voice_render.specs.Answers.{render_answer}
 use Rattle.voice_render.proofs.Alike.{answer_by}
 use Rattle.voice_render.proofs.Switch.{as_given, fits_as_given, set_up_switch}
@@ -107,12 +108,12 @@ module _ (pairs high low : List Float) (v : Voice) (p : VoiceParameters) (block 
   abbrev unlit : Bool → Bool → Bool → Bool → Answered
   unlit = answer_by pairs high low (turned v false) q block
 
-  same_blank : unsounded 0 (set_up high low v) block
-      ≡ answer_turned (unsounded 0 (set_up high low (turned v false)) block) true
+  same_blank : blank (set_up high low v) block
+      ≡ answer_turned (blank (set_up high low (turned v false)) block) true
   unfolding turned
   same_blank =
       rw (set_up_turned pairs high low v false)
-      (ap (λ (w : Voice). unsounded 0 w block) (stays_on (set_up high low v) (set_up_switch pairs high low v ∙ on)))
+      (ap (λ (w : Voice). blank w block) (stays_on (set_up high low v) (set_up_switch pairs high low v ∙ on)))
 
   sounded_on : (sounded pairs high low v q block).voice.transposing ≡ true
   unfolding sounded after
@@ -127,7 +128,8 @@ module _ (pairs high low : List Float) (v : Voice) (p : VoiceParameters) (block 
       (stays_on s.voice sounded_on)
       ∙ ap (λ (a : Answered). answer_turned a true) (sym (sounded_turned pairs high low v false q block))
 
-  same : (state size fit dirty other : Bool) → (fit ≡ true → other ≡ true) → (lit state size fit dirty).number ≡ 0
+  same : (state size fit dirty other : Bool) → (fit ≡ true → other ≡ true)
+      → number_told (lit state size fit dirty).answer ≡ 0
       → lit state size fit dirty ≡ answer_turned (unlit state size other dirty) true
   same true true true true other f n = rw (f refl) same_blank
   same true true true false other f n = rw (f refl) same_sound
@@ -148,23 +150,24 @@ module _ (pairs high low : List Float) (v : Voice) (p : VoiceParameters) (block 
   unlit_answer = off_is_plain pairs high low (turned v false) q block refl ∙ rw (state_turned v false) refl
 
   -- an accepted block; the other one is accepted then too
-  pub on_is_off_shifted : (render_answer pairs high low v p block).number ≡ 0
+  pub on_is_off_shifted : number_told (render_answer pairs high low v p block).answer ≡ 0
       → render_answer pairs high low v p block
       ≡ answer_turned (render_answer pairs high low (turned v false) (shifted v p) block) true
   on_is_off_shifted n =
       lit_answer
       ∙ same (state_fits v) (block_fits (length block)) fit v.dirty (parameters_fit q) (still_fits v p)
-      (ap (λ (a : Answered). a.number) (sym lit_answer) ∙ n)
+      (ap (λ (a : Answered). number_told a.answer) (sym lit_answer) ∙ n)
       ∙ ap (λ (a : Answered). answer_turned a true) (sym unlit_answer)
 
   -- 7 is also given where the shifted note lies outside 0 to 127, in blank blocks too
   pub number_on : state_fits v ≡ true → block_fits (length block) ≡ true
-      → (render_answer pairs high low v p block).number ≡ cond (parameters_fit p && note_fits (shifted_note v p)) 0 7
+      → number_told (render_answer pairs high low v p block).answer
+      ≡ cond (parameters_fit p && note_fits (shifted_note v p)) 0 7
   unfolding render_answer
   number_on state size = rw (state, size, fits_shifted v p on has) (go fit v.dirty)
     where
       go : (fit dirty : Bool)
-          → (answer_by pairs high low v (played_by v p) block true true fit dirty).number ≡ cond fit 0 7
+          → number_told (answer_by pairs high low v (played_by v p) block true true fit dirty).answer ≡ cond fit 0 7
       go true true = refl
       go true false = refl
       go false dirty = refl

@@ -10,13 +10,14 @@ use lib.ListN.{take}
 use lib.Ieee.{Float}
 use lib.Ieee.Bits.{is_true}
 use lib.Ieee.Fits.{and_i}
+use Rattle.std.specs.Prelude.{Result, Ok, Err, IfErr}
+use Rattle.refusals.specs.declared.Refusal.{Refusal}
+use Rattle.refusals.specs.declared.Refusal.TheVariants.{WrongTable, SampleRate, Field}
+use Rattle.refusals.specs.declared.Refused.{Refused}
+use Rattle.refusals.specs.Answer.{number_of, number_given, refused, number_told, state_after}
 use Rattle.patch.specs.declared.Patch.{Patch}
 use Rattle.patch.specs.Packed.{patch_fits}
 use Rattle.patch_limits.specs.Ranges.{sample_rate_fits}
-use Rattle.std.specs.Prelude.{Result, Ok, Err, IfErr}
-use Rattle.refusals.specs.declared.Refusal.{Refusal}
-use Rattle.refusals.specs.declared.Refusal.TheVariants.{WrongTable}
-use Rattle.refusals.specs.Answer.{number_of}
 use Rattle.algorithms.specs.declared.Plan.{Plan}
 use Rattle.algorithms.specs.declared.Compiled.{Compiled}
 use Rattle.algorithms.specs.Chain.{rendered}
@@ -26,11 +27,9 @@ use Rattle.algorithms.proofs.Same.{same_plan_self}
 use Rattle.algorithms.proofs.Steps.{at_call}
 use Rattle.envelope_inner.specs.Envelope.{initialised, is_stage, all_stages}
 use Rattle.voice.specs.declared.Voice.{Voice}
-use Rattle.voice.specs.declared.Prepared.{Prepared}
-use Rattle.voice.specs.declared.Stored.{Stored}
 use Rattle.voice.specs.Voice.{voice_with, fresh_voice, no_voice, with_patch, without_patch, with_switch}
-use Rattle.voice.specs.Answers.{patch_sound, state_fits, prepared, init_answer, loaded, not_loaded, set_patch_answer}
-use Rattle.voice.specs.Answers.{take_patch_answer, set_transposing_answer, no_patch, patch_answer}
+use Rattle.voice.specs.Answers.{patch_sound, state_fits, init_answer, row_compiled, loaded, set_patch_answer}
+use Rattle.voice.specs.Answers.{take_patch_answer, set_transposing_answer, patch_answer}
 use Rattle.voice.proofs.States.{Fits, state_fits_lem}
 
 -- a number that is no 9
@@ -38,8 +37,8 @@ abbrev pub NoNine : ℕ → Type 0
 NoNine number = T (not (eqb number 9))
 
 -- what an answer leaves: an accepted voice, and a number that is no 9
-abbrev pub Kept : Voice → ℕ → Type 0
-Kept v number = T (state_fits v) × NoNine number
+abbrev pub Kept : Result Voice (Refused Voice) → Type 0
+Kept a = T (state_fits (state_after a)) × NoNine (number_told a)
 
 pub fits_state : (v : Voice) → Fits v → T (state_fits v)
 unfolding state_fits
@@ -57,34 +56,36 @@ unfolding fresh_voice voice_with initialised all_stages
 fresh_fits operators rate t = fits_state _ (record { count = t; stages = tt; pitch = omega arith; patched = tt })
 
 pub init_fits : (operators : ℕ) (rate : Float) → T (counted operators) → T (sample_rate_fits rate)
-    → T (state_fits (init_answer operators rate).voice)
+    → T (state_fits (state_after (init_answer operators rate)))
 unfolding init_answer
 init_fits operators rate t u =
     rw (is_true (counted operators) t, is_true (sample_rate_fits rate) u) (fresh_fits operators rate t)
 
 module _ (operators : ℕ) (rate : Float) where
   -- the start, for each way that its tests go
-  abbrev start : Bool → Bool → Prepared
-  start b c = cond b (cond c (prepared 0 (fresh_voice operators rate)) (prepared 5 no_voice)) (prepared 2 no_voice)
+  abbrev start : Bool → Bool → Result Voice (Refused Voice)
+  start b c = cond b (cond c (Ok (fresh_voice operators rate)) (refused SampleRate no_voice)) (refused WrongTable no_voice)
+
+  abbrev made : Result Voice (Refused Voice)
+  made = init_answer operators rate
 
   -- a start that is not refused leaves such a voice
-  pub init_keeps : NoNine (init_answer operators rate).number
-      × ((init_answer operators rate).number ≡ 0 → T (state_fits (init_answer operators rate).voice))
+  pub init_keeps : NoNine (number_told made) × (number_told made ≡ 0 → T (state_fits (state_after made)))
   unfolding init_answer
   init_keeps = go (counted operators) (sample_rate_fits rate) refl
     where
       go : (b c : Bool) → counted operators ≡ b
-          → NoNine (start b c).number × ((start b c).number ≡ 0 → T (state_fits (start b c).voice))
+          → NoNine (number_told (start b c)) × (number_told (start b c) ≡ 0 → T (state_fits (state_after (start b c))))
       go true true e = (tt, λ z. fresh_fits operators rate (subst T (sym e) tt))
       go true false e = (tt, λ z. absurd (omega arith))
       go false c e = (tt, λ z. absurd (omega arith))
 
   -- one that is refused hands out a voice of no operators
-  pub refused_init : ((init_answer operators rate).number ≡ 0 → ⊥) → (init_answer operators rate).voice ≡ no_voice
+  pub refused_init : (number_told made ≡ 0 → ⊥) → state_after made ≡ no_voice
   unfolding init_answer
   refused_init = go (counted operators) (sample_rate_fits rate)
     where
-      go : (b c : Bool) → ((start b c).number ≡ 0 → ⊥) → (start b c).voice ≡ no_voice
+      go : (b c : Bool) → (number_told (start b c) ≡ 0 → ⊥) → state_after (start b c) ≡ no_voice
       go true true n = absurd (n refl)
       go true false n = refl
       go false c n = refl
@@ -152,20 +153,19 @@ module _ (v : Voice) (t : T (state_fits v)) where
       let f = state_fits_lem v t in
       fits_state _ (record { count = f.count; stages = f.stages; pitch = f.pitch; patched = tt })
 
-  pub set_patch_keeps : (p : Patch) (table : List ℕ)
-      → Kept (set_patch_answer v p table).voice (set_patch_answer v p table).number
-  unfolding set_patch_answer loaded
+  pub set_patch_keeps : (p : Patch) (table : List ℕ) → Kept (set_patch_answer v p table)
+  unfolding set_patch_answer row_compiled
   set_patch_keeps p table =
       rw (is_true (state_fits v) t)
       (go (patch_fits p) refl (compiled v.operators table p.algorithm) (compiles v.operators table p.algorithm))
     where
       go : (b : Bool) → patch_fits p ≡ b → (c : Result Compiled Refusal) → Compiles v.operators c
-          → Kept (cond b (loaded v p c) (not_loaded 6 v)).voice (cond b (loaded v p c) (not_loaded 6 v)).number
+          → Kept (loaded v p (cond b c (Err Field)))
       go true f (Ok c) k = (with_patch_fits p c.row c.plan (subst T (sym f) tt) k, tt)
       go true f (Err e) k = (t, k)
       go false f c k = (t, tt)
 
-  pub take_patch_keeps : Kept (take_patch_answer v).voice (take_patch_answer v).number
+  pub take_patch_keeps : Kept (take_patch_answer v)
   unfolding take_patch_answer
   take_patch_keeps = rw (is_true (state_fits v) t) (without_patch_fits, tt)
 
@@ -188,18 +188,10 @@ module _ (v : Voice) (t : T (state_fits v)) where
       go true s = s
       go false s = tt
 
-  pub set_transposing_keeps : (on : Bool)
-      → Kept (set_transposing_answer v on).voice (set_transposing_answer v on).number
+  pub set_transposing_keeps : (on : Bool) → Kept (set_transposing_answer v on)
   unfolding set_transposing_answer
   set_transposing_keeps on = rw (is_true (state_fits v) t) (with_switch_fits on, tt)
 
-  pub patch_no_nine : NoNine (patch_answer v).number
+  pub patch_no_nine : NoNine (number_given (patch_answer v))
   unfolding patch_answer
-  patch_no_nine = rw (is_true (state_fits v) t) (go v.has_patch)
-    where
-      answer : Bool → Stored
-      answer b = cond b (record { number = 0; has = true; patch = v.patch }) (no_patch 0)
-
-      go : (b : Bool) → NoNine (answer b).number
-      go true = tt
-      go false = tt
+  patch_no_nine = rw (is_true (state_fits v) t) tt

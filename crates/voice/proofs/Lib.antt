@@ -1,6 +1,5 @@
 -- laws for the functions' proofs, and for the crates above
 pub mod Tests
 pub mod States
-pub mod Patches
 pub mod Kept
 pub mod Switch

@@ -1,9 +1,8 @@
--- Number 9, test by test, and what an accepted state has. Assumes nothing.
+-- What a state has that 9 accepts. Assumes nothing.
 use mathlib.Core.Path.{◌≡◌, refl, ap, subst}
 use mathlib.Core.Bool.{Bool, true, false, cond, ◌&&◌}
 use mathlib.Core.List.{List}
 use Prim.Native.Nat.{ℕ, ◌≤◌, ◌<◌}
-use borrow.Author.Tests.{le-leb, lt-leb}
 use lib.Dec.{T, leb→le}
 use lib.Ieee.Bits.{is_true}
 use Rattle.std.specs.Prelude.{Result, Ok, Err}
@@ -17,47 +16,6 @@ use Rattle.algorithms.proofs.Same.{same_plan_equal}
 use Rattle.envelope_inner.specs.Envelope.{is_stage, all_stages}
 use Rattle.voice.specs.declared.Voice.{Voice}
 use Rattle.voice.specs.Answers.{patch_sound, state_fits}
-
--- ---- a stored patch
-
-module _ (operators : ℕ) (p : Patch) (row : List ℕ) (plan : Plan) where
-  pub no_patch_lem : patch_fits p ≡ false → false ≡ patch_sound operators p row plan
-  unfolding patch_sound
-  no_patch_lem h = simp h
-
-  pub same_as_row : patch_fits p ≡ true → {b : Bool} → b ≡ is_plan_of operators row plan
-      → b ≡ patch_sound operators p row plan
-  unfolding patch_sound
-  same_as_row h e = simp (h, e)
-
--- ---- a state
-
-module _ (v : Voice) where
-  pub no_count : counted v.operators ≡ false → false ≡ state_fits v
-  unfolding state_fits
-  no_count h = simp h
-
-  module _ (count : counted v.operators ≡ true) where
-    pub no_stages : all_stages v.operator_envelope ≡ false → false ≡ state_fits v
-    unfolding state_fits
-    no_stages h = simp (count, h)
-
-    module _ (stages : all_stages v.operator_envelope ≡ true) where
-      pub no_pitch : 3 < v.pitch_envelope.stage → false ≡ state_fits v
-      unfolding state_fits
-      no_pitch h = simp (count, stages, lt-leb v.pitch_envelope.stage 3 h)
-
-      module _ (pitch : v.pitch_envelope.stage ≤ 3) where
-        pub with_patch_lem : v.has_patch ≡ true → {b : Bool} → b ≡ patch_sound v.operators v.patch v.row v.plan
-            → b ≡ state_fits v
-        unfolding state_fits
-        with_patch_lem h e = simp (count, stages, le-leb v.pitch_envelope.stage 3 pitch, h, e)
-
-        pub without_patch_lem : v.has_patch ≡ false → v.dirty ≡ state_fits v
-        unfolding state_fits
-        without_patch_lem h = simp (count, stages, le-leb v.pitch_envelope.stage 3 pitch, h)
-
--- ---- what an accepted state has
 
 pub record Sound (operators : ℕ) (p : Patch) (row : List ℕ) (plan : Plan) : Type 0 where
   pub fits : T (patch_fits p)

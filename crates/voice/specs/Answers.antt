@@ -1,9 +1,10 @@
 -- What each entry of a voice but its block answers, refused input included, in document 01's order. Definitions only.
-use Rattle.std.specs.Prelude.{ℕ, Bool, true, false, cond, ◌&&◌, List, Float, Result, Ok, Err}
+use Rattle.std.specs.Prelude.{ℕ, Bool, true, cond, ◌&&◌, List, Float, Option, Some, None, Result, Ok, Err}
 use Rattle.refusals.specs.declared.Refusal.{Refusal}
-use Rattle.refusals.specs.Answer.{number_of, place_of}
+use Rattle.refusals.specs.declared.Refusal.TheVariants.{WrongTable, SampleRate, Field, ForeignState}
+use Rattle.refusals.specs.declared.Refused.{Refused}
+use Rattle.refusals.specs.Answer.{refused}
 use Rattle.patch.specs.declared.Patch.{Patch}
-use Rattle.patch.specs.Form.{zero_patch}
 use Rattle.patch.specs.Packed.{patch_fits}
 use Rattle.patch_limits.specs.Ranges.{sample_rate_fits}
 use Rattle.algorithms.specs.declared.Plan.{Plan}
@@ -12,9 +13,6 @@ use Rattle.algorithms.specs.Plan.{counted, is_plan_of}
 use Rattle.algorithms.specs.Table.{compiled}
 use Rattle.envelope_inner.specs.Envelope.{is_stage, all_stages}
 use Rattle.voice.specs.declared.Voice.{Voice}
-use Rattle.voice.specs.declared.Prepared.{Prepared}
-use Rattle.voice.specs.declared.Loaded.{Loaded}
-use Rattle.voice.specs.declared.Stored.{Stored}
 use Rattle.voice.specs.Voice.{fresh_voice, no_voice, with_patch, without_patch, with_switch}
 
 -- ---- what is refused
@@ -33,45 +31,39 @@ state_fits v =
 
 -- ---- the answers
 
-abbrev pub prepared : ℕ → Voice → Prepared
-prepared number v = record { number = number; voice = v }
+-- 9 only
+unfoldable pub accepted : Voice → Result Voice (Refused Voice)
+accepted v = cond (state_fits v) (Ok v) (refused ForeignState v)
 
 -- 2, then 5; a refusal hands back a voice of no operators
-unfoldable pub init_answer : ℕ → Float → Prepared
+unfoldable pub init_answer : ℕ → Float → Result Voice (Refused Voice)
 init_answer operators rate =
     cond (counted operators)
-    (cond (sample_rate_fits rate) (prepared 0 (fresh_voice operators rate)) (prepared 5 no_voice))
-    (prepared 2 no_voice)
+    (cond (sample_rate_fits rate) (Ok (fresh_voice operators rate)) (refused SampleRate no_voice))
+    (refused WrongTable no_voice)
 
--- what a compiled row makes of the voice; 3 and 4 name their operator
-unfoldable pub loaded : Voice → Patch → Result Compiled Refusal → Loaded
-loaded v p (Ok c) = record { number = 0; at = 0; voice = with_patch v true p c.row c.plan }
-loaded v p (Err e) = record { number = number_of e; at = place_of e; voice = v }
+-- the row that a patch names, compiled: 6, 2, 3, 4
+unfoldable pub row_compiled : ℕ → Patch → List ℕ → Result Compiled Refusal
+row_compiled operators p table = cond (patch_fits p) (compiled operators table p.algorithm) (Err Field)
 
-abbrev pub not_loaded : ℕ → Voice → Loaded
-not_loaded number v = record { number = number; at = 0; voice = v }
+-- what a compiled row makes of the voice
+abbrev pub loaded : Voice → Patch → Result Compiled Refusal → Result Voice (Refused Voice)
+loaded v p (Ok c) = Ok (with_patch v true p c.row c.plan)
+loaded v p (Err refusal) = refused refusal v
 
 -- 9, 6, 2, 3, 4
-unfoldable pub set_patch_answer : Voice → Patch → List ℕ → Loaded
+unfoldable pub set_patch_answer : Voice → Patch → List ℕ → Result Voice (Refused Voice)
 set_patch_answer v p table =
-    cond (state_fits v)
-    (cond (patch_fits p) (loaded v p (compiled v.operators table p.algorithm)) (not_loaded 6 v))
-    (not_loaded 9 v)
+    cond (state_fits v) (loaded v p (row_compiled v.operators p table)) (refused ForeignState v)
 
 -- 9 only
-unfoldable pub take_patch_answer : Voice → Prepared
-take_patch_answer v = cond (state_fits v) (prepared 0 (without_patch v)) (prepared 9 v)
+unfoldable pub take_patch_answer : Voice → Result Voice (Refused Voice)
+take_patch_answer v = cond (state_fits v) (Ok (without_patch v)) (refused ForeignState v)
 
 -- 9 only
-unfoldable pub set_transposing_answer : Voice → Bool → Prepared
-set_transposing_answer v on = cond (state_fits v) (prepared 0 (with_switch v on)) (prepared 9 v)
+unfoldable pub set_transposing_answer : Voice → Bool → Result Voice (Refused Voice)
+set_transposing_answer v on = cond (state_fits v) (Ok (with_switch v on)) (refused ForeignState v)
 
-abbrev pub no_patch : ℕ → Stored
-no_patch number = record { number = number; has = false; patch = zero_patch }
-
--- 9 only; a voice without a patch answers with the zero patch, whatever is stored in it
-unfoldable pub patch_answer : Voice → Stored
-patch_answer v =
-    cond (state_fits v)
-    (cond v.has_patch (record { number = 0; has = true; patch = v.patch }) (no_patch 0))
-    (no_patch 9)
+-- 9 only; a voice without a patch answers that there is none, whatever is stored in it
+unfoldable pub patch_answer : Voice → Result (Option Patch) Refusal
+patch_answer v = cond (state_fits v) (Ok (cond v.has_patch (Some v.patch) None)) (Err ForeignState)

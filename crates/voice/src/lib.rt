@@ -7,7 +7,7 @@
 ghost use Rattle.std.specs.Prelude.{◌≡◌};
 ghost use Rattle.envelope_inner.specs.Envelope.{all_stages};
 ghost use Rattle.voice.specs.Voice.{voice_with, with_patch, with_switch};
-ghost use Rattle.voice.specs.Answers.{patch_sound, state_fits, init_answer, loaded, set_patch_answer};
+ghost use Rattle.voice.specs.Answers.{patch_sound, state_fits, accepted, init_answer, row_compiled, set_patch_answer};
 ghost use Rattle.voice.specs.Answers.{take_patch_answer, patch_answer, set_transposing_answer};
 
 use algorithms::{Compiled, Plan};
@@ -15,7 +15,7 @@ use dx_units_inner::Ratio;
 use envelope_inner::Envelope;
 use operator::{Feedback, Operator};
 use patch::Patch;
-use refusals::Refusal;
+use refusals::{Refusal, Refused};
 
 #[derive(Clone, Copy)]
 pub struct Voice {
@@ -41,260 +41,179 @@ pub struct Voice {
     pub transposing: bool,
 }
 
-// What starting, taking a patch out and setting the switch give.
-#[derive(Clone, Copy)]
-pub struct Prepared {
-    pub number: u8,
-    pub voice: Voice,
-}
-
-// What setting a patch gives; 3 and 4 name their operator.
-#[derive(Clone, Copy)]
-pub struct Loaded {
-    pub number: u8,
-    pub at: u8,
-    pub voice: Voice,
-}
-
-// What asking for the patch gives: whether there is one, and it; the zero patch where there is none.
-#[derive(Clone, Copy)]
-pub struct Stored {
-    pub number: u8,
-    pub has: bool,
-    pub patch: Patch,
-}
-
 // A voice at rest, dirty and without a patch; of no operators where starting is refused.
 fn voice_with(operators: usize, sample_rate: f32, one_hz: f32, a0: f32) -> Voice
     ensures { result ≡ voice_with operators sample_rate one_hz a0 }
 {
     // Envelope increments are written for 44,100 Hz, whatever the rate: the older instrument's.
     let e = envelope_inner::init(44100.0 * one_hz);
-    let o = Operator::new();
-    let r = Ratio::Note(0.0);
-    let patch = Patch::new();
-    let plan = algorithms::no_plan();
-    let feedback_state = Feedback {
-        previous_0: 0.0,
-        previous_1: 0.0,
-    };
     Voice {
         operators,
         sample_rate,
         one_hz,
         a0,
         gate: false,
-        operator: [o, o, o, o, o, o],
-        operator_envelope: [e, e, e, e, e, e],
+        operator: [Operator::new(); 6],
+        operator_envelope: [e; 6],
         pitch_envelope: e,
         normalized_velocity: 10.0,
         note: 48.0,
-        ratios: [r, r, r, r, r, r],
-        level_headroom: [0.0, 0.0, 0.0, 0.0, 0.0, 0.0],
-        feedback_state,
+        ratios: [Ratio::Note(0.0); 6],
+        level_headroom: [0.0; 6],
+        feedback_state: Feedback {
+            previous_0: 0.0,
+            previous_1: 0.0,
+        },
         has_patch: false,
-        patch,
-        row: [0, 0, 0, 0, 0, 0],
-        plan,
+        patch: Patch::new(),
+        row: [0; 6],
+        plan: algorithms::no_plan(),
         dirty: true,
         transposing: false,
     }
 }
 
 // No envelope has a stage above 3.
-fn all_stages(e: [Envelope; 6]) -> bool
-    ensures { result ≡ all_stages e }
+fn all_stages(envelopes: [Envelope; 6]) -> bool
+    ensures { result ≡ all_stages envelopes }
 {
-    (e[0].stage <= 3)
-        & (e[1].stage <= 3)
-        & (e[2].stage <= 3)
-        & (e[3].stage <= 3)
-        & (e[4].stage <= 3)
-        & (e[5].stage <= 3)
+    envelopes.iter().all(|e| e.stage <= 3)
 }
 
 // A stored patch whose fields 6 accepts, with a row that gets neither 3 nor 4 and that row's plan.
+#[tactic(auto, unfolding(crate::specs::Answers::patch_sound))]
 fn patch_sound(operators: usize, patch: Patch, row: [u8; 6], plan: Plan) -> bool
     ensures { result ≡ patch_sound operators patch row plan }
 {
-    if !patch_limits::patch_fits(patch) {
-        return false;
-    }
-    algorithms::is_plan_of(operators, row, plan)
+    patch_limits::patch_fits(patch) && algorithms::is_plan_of(operators, row, plan)
 }
 
 // Number 9.
+#[tactic(auto, unfolding(crate::specs::Answers::state_fits))]
 pub fn state_fits(v: Voice) -> bool
     ensures { result ≡ state_fits v }
 {
-    if !algorithms::is_counted(v.operators) {
-        return false;
-    }
-    let e = v.operator_envelope;
-    if !all_stages(e) {
-        return false;
-    }
-    let pitch = v.pitch_envelope;
-    if pitch.stage > 3 {
+    if !algorithms::is_counted(v.operators)
+        || !all_stages(v.operator_envelope)
+        || v.pitch_envelope.stage > 3
+    {
         return false;
     }
     if v.has_patch {
-        let patch = v.patch;
-        let row = v.row;
-        let plan = v.plan;
-        return patch_sound(v.operators, patch, row, plan);
+        return patch_sound(v.operators, v.patch, v.row, v.plan);
     }
     v.dirty
 }
 
+// A voice that 9 accepts.
+#[tactic(auto, unfolding(crate::specs::Answers::accepted))]
+fn accepted(v: Voice) -> Result<Voice, Refused<Voice>>
+    ensures { result ≡ accepted v }
+{
+    if !state_fits(v) {
+        return Err(Refused {
+            refusal: Refusal::ForeignState,
+            state: v,
+        });
+    }
+    Ok(v)
+}
+
 // A fresh voice of 4 or 6 operators.
-pub fn init(operators: usize, sample_rate: f32) -> Prepared
+pub fn init(operators: usize, sample_rate: f32) -> Result<Voice, Refused<Voice>>
     ensures { result ≡ init_answer operators sample_rate }
 {
     if !algorithms::is_counted(operators) {
-        return Prepared {
-            number: 2,
-            voice: voice_with(0, 0.0, 0.0, 0.0),
-        };
+        return Err(Refused {
+            refusal: Refusal::WrongTable,
+            state: voice_with(0, 0.0, 0.0, 0.0),
+        });
     }
     if !patch_limits::sample_rate_fits(sample_rate) {
-        return Prepared {
-            number: 5,
-            voice: voice_with(0, 0.0, 0.0, 0.0),
-        };
+        return Err(Refused {
+            refusal: Refusal::SampleRate,
+            state: voice_with(0, 0.0, 0.0, 0.0),
+        });
     }
-    Prepared {
-        number: 0,
-        voice: voice_with(
-            operators,
-            sample_rate,
-            1.0 / sample_rate,
-            55.0 / sample_rate,
-        ),
-    }
+    Ok(voice_with(
+        operators,
+        sample_rate,
+        1.0 / sample_rate,
+        55.0 / sample_rate,
+    ))
 }
 
 // The voice with another patch or none, which the next block sets up.
+#[tactic(auto, unfolding(crate::specs::Voice::with_patch))]
 fn with_patch(v: Voice, has_patch: bool, patch: Patch, row: [u8; 6], plan: Plan) -> Voice
     ensures { result ≡ with_patch v has_patch patch row plan }
 {
-    let mut w = v;
-    w.has_patch = has_patch;
-    w.patch = patch;
-    w.row = row;
-    w.plan = plan;
-    w.dirty = true;
-    w
+    Voice {
+        has_patch,
+        patch,
+        row,
+        plan,
+        dirty: true,
+        ..v
+    }
 }
 
-// What a compiled row makes of the voice.
-#[tactic(auto, unfolding(crate::specs::Answers::loaded))]
-fn load(v: Voice, patch: Patch, compiled: Result<Compiled, Refusal>) -> Loaded
-    ensures { result ≡ loaded v patch compiled }
+// The row that a patch names, compiled: 6, 2, 3, 4.
+#[tactic(auto, unfolding(crate::specs::Answers::row_compiled, patch::specs::Packed::check_of))]
+fn compile(operators: usize, patch: Patch, table: &[u8]) -> Result<Compiled, Refusal>
+    ensures { result ≡ row_compiled operators patch table.now }
 {
-    match compiled {
-        Ok(c) => Loaded {
-            number: 0,
-            at: 0,
-            voice: with_patch(v, true, patch, c.row, c.plan),
-        },
-        Err(refusal) => Loaded {
-            number: refusal.number(),
-            at: refusal.place(),
-            voice: v,
-        },
-    }
+    patch_limits::check(patch)?;
+    algorithms::compile(operators, table, patch.algorithm as usize)
 }
 
 // A patch, with the row of the lent table that its algorithm names.
-pub fn set_patch(v: Voice, patch: Patch, table: &[u8]) -> Loaded
+#[tactic(auto, unfolding(crate::specs::Answers::set_patch_answer, crate::specs::Answers::accepted))]
+pub fn set_patch(v: Voice, patch: Patch, table: &[u8]) -> Result<Voice, Refused<Voice>>
     ensures { result ≡ set_patch_answer v patch table.now }
 {
-    if !state_fits(v) {
-        return Loaded {
-            number: 9,
-            at: 0,
-            voice: v,
-        };
+    let w = accepted(v)?;
+    match compile(w.operators, patch, table) {
+        Ok(c) => Ok(with_patch(w, true, patch, c.row, c.plan)),
+        Err(refusal) => Err(Refused { refusal, state: w }),
     }
-    if !patch_limits::patch_fits(patch) {
-        return Loaded {
-            number: 6,
-            at: 0,
-            voice: v,
-        };
-    }
-    let c = algorithms::compile(v.operators, table, patch.algorithm as usize);
-    load(v, patch, c)
 }
 
 // No patch any more.
-pub fn take_patch(v: Voice) -> Prepared
+#[tactic(auto, unfolding(crate::specs::Answers::take_patch_answer, crate::specs::Answers::accepted, crate::specs::Voice::without_patch, algorithms::specs::Table::six))]
+pub fn take_patch(v: Voice) -> Result<Voice, Refused<Voice>>
     ensures { result ≡ take_patch_answer v }
 {
-    if !state_fits(v) {
-        return Prepared {
-            number: 9,
-            voice: v,
-        };
-    }
-    let patch = Patch::new();
-    let plan = algorithms::no_plan();
-    Prepared {
-        number: 0,
-        voice: with_patch(v, false, patch, [0, 0, 0, 0, 0, 0], plan),
-    }
+    let w = accepted(v)?;
+    Ok(with_patch(w, false, Patch::new(), [0; 6], algorithms::no_plan()))
 }
 
 // The voice with its switch on or off, which the next block sets up.
+#[tactic(auto, unfolding(crate::specs::Voice::with_switch))]
 fn with_switch(v: Voice, on: bool) -> Voice
     ensures { result ≡ with_switch v on }
 {
-    let mut w = v;
-    w.transposing = on;
-    w.dirty = true;
-    w
+    Voice {
+        transposing: on,
+        dirty: true,
+        ..v
+    }
 }
 
 // Whether the patch's transpose moves the notes that blocks play. The voice is dirty then, also where the switch stays
 // as it was.
-pub fn set_transposing(v: Voice, on: bool) -> Prepared
+#[tactic(auto, unfolding(crate::specs::Answers::set_transposing_answer, crate::specs::Answers::accepted))]
+pub fn set_transposing(v: Voice, on: bool) -> Result<Voice, Refused<Voice>>
     ensures { result ≡ set_transposing_answer v on }
 {
-    if !state_fits(v) {
-        return Prepared {
-            number: 9,
-            voice: v,
-        };
-    }
-    Prepared {
-        number: 0,
-        voice: with_switch(v, on),
-    }
+    Ok(with_switch(accepted(v)?, on))
 }
 
 // The patch that the voice has, if it has one.
-pub fn patch(v: Voice) -> Stored
+#[tactic(auto, unfolding(crate::specs::Answers::patch_answer, crate::specs::Answers::accepted))]
+pub fn patch(v: Voice) -> Result<Option<Patch>, Refusal>
     ensures { result ≡ patch_answer v }
 {
-    if !state_fits(v) {
-        return Stored {
-            number: 9,
-            has: false,
-            patch: Patch::new(),
-        };
-    }
-    if !v.has_patch {
-        return Stored {
-            number: 0,
-            has: false,
-            patch: Patch::new(),
-        };
-    }
-    let stored = v.patch;
-    Stored {
-        number: 0,
-        has: true,
-        patch: stored,
-    }
+    let w = accepted(v)?;
+    Ok(w.has_patch.then_some(w.patch))
 }

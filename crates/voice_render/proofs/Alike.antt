@@ -8,27 +8,34 @@ use lib.Dec.{T}
 use lib.ListN.{length, take}
 use lib.Ieee.{Float}
 use Rattle.algorithms.proofs.Accepted.{SafePlan, planned_safe}
+use Rattle.std.specs.Prelude.{Result, Ok}
+use Rattle.refusals.specs.declared.Refusal.TheVariants.{Parameter, BlockLength, ForeignState}
+use Rattle.refusals.specs.declared.Refused.{Refused}
 use Rattle.dx_units_step.specs.declared.Mark.{Mark}
 use Rattle.voice_block.specs.declared.Operators.{Operators}
 use Rattle.voice_block.proofs.Same.{same_sound}
 use Rattle.voice_block.proofs.Lengths.{ran_length}
-use Rattle.voice_levels.specs.Levels.{all_as_asked}
 use Rattle.voice.specs.declared.Voice.{Voice}
 use Rattle.voice.specs.Answers.{state_fits}
 use Rattle.voice.proofs.States.{stored, clean_has}
 use Rattle.voice_render.specs.declared.VoiceParameters.{VoiceParameters}
 use Rattle.voice_render.specs.Setup.{set_up}
 use Rattle.voice_render.specs.Block.{played_by, begun, entering, after, levels_for, marks_for, played, sounded}
-use Rattle.voice_render.specs.Answers.{block_fits, parameters_fit_for, Answered, unsounded, sounding, render_answer}
+use Rattle.voice_render.specs.declared.Rendered.{Rendered}
+use Rattle.voice_render.specs.Answers.{block_fits, parameters_fit_for, Answered, answered_by, block_refused, blank}
+use Rattle.voice_render.specs.Answers.{sounding, render_answer}
 use Rattle.voice_render.specs.Heard.{output, heard_of}
 use Rattle.voice_render.proofs.Blocks.{block_whole}
 
-abbrev answer : ℕ → List Mark → Voice → List Float → Answered
-answer number marks v block = record { number = number; marks = marks; voice = v; block = block }
+-- answers to two blocks with the same output
+same_block : (a : Result Rendered (Refused Voice)) {one other : List Float} → one ≡ other
+    → answered_by a one ≡ answered_by a other
+same_block a f = rw f
 
-same_answer : (number : ℕ) (marks : List Mark) {v w : Voice} {one other : List Float} → v ≡ w → one ≡ other
-    → answer number marks v one ≡ answer number marks w other
-same_answer number marks e f = rw (e, f)
+same_sounding : (marks : List Mark) {v w : Voice} {one other : List Float} → v ≡ w → one ≡ other
+    → answered_by (Ok (record { marks = marks; voice = v })) one
+    ≡ answered_by (Ok (record { marks = marks; voice = w })) other
+same_sounding marks e f = rw (e, f)
 
 -- an accepted block's output is its first quarter
 output_fits : (n : ℕ) (block : List Float) → length block ≡ n → block_fits n ≡ true
@@ -50,10 +57,10 @@ answer_by pairs high low v p block state size fit dirty =
     cond state
     (cond size
     (cond fit
-    (cond dirty (unsounded 0 (set_up high low v) block) (sounding (sounded pairs high low v p block)))
-    (unsounded 7 v block))
-    (unsounded 8 v block))
-    (unsounded 9 v block)
+    (cond dirty (blank (set_up high low v) block) (sounding (sounded pairs high low v p block)))
+    (block_refused Parameter v block))
+    (block_refused BlockLength v block))
+    (block_refused ForeignState v block)
 
 -- any block is as long afterwards
 pub rendered_length : (pairs high low : List Float) (v : Voice) (p : VoiceParameters) (block : List Float)
@@ -91,7 +98,7 @@ module _ (pairs high low : List Float) (v : Voice) (p : VoiceParameters) (one ot
       whole in
       let long' = ran_length pairs v.plan levels.steps levels.amplitudes v.patch.feedback before other
       (rw (← l) whole) in
-      rw (← l) (same_answer 0 (marks_for pairs high low v p (n / 4))
+      rw (← l) (same_sounding (marks_for pairs high low v p (n / 4))
       (ap (after v p (begun high low v p (n / 4)) levels) same.0)
       (output_fits n _ long size ∙ same.1 ∙ sym (output_fits n _ (long' ∙ sym l) size)))
 
@@ -100,11 +107,11 @@ module _ (pairs high low : List Float) (v : Voice) (p : VoiceParameters) (one ot
       → v.dirty ≡ dirty
       → heard_of (answer_by pairs high low v p one state size fit dirty)
       ≡ heard_of (answer_by pairs high low v p other state size fit dirty)
-  answered_alike true true true true f s d = same_answer 0 all_as_asked refl o
+  answered_alike true true true true f s d = same_block _ o
   answered_alike true true true false f s d = sounded_alike f s d
-  answered_alike true true false dirty f s d = same_answer 7 all_as_asked refl o
-  answered_alike true false fit dirty f s d = same_answer 8 all_as_asked refl o
-  answered_alike false size fit dirty f s d = same_answer 9 all_as_asked refl o
+  answered_alike true true false dirty f s d = same_block _ o
+  answered_alike true false fit dirty f s d = same_block _ o
+  answered_alike false size fit dirty f s d = same_block _ o
 
 -- any block, its switch on or off
 pub rendered_alike : (pairs high low : List Float) (v : Voice) (p : VoiceParameters) (one other : List Float)

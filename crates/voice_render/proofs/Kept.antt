@@ -7,6 +7,9 @@ use lib.Dec.{T}
 use lib.ListN.{length}
 use lib.Ieee.{Float}
 use lib.Ieee.Bits.{is_true}
+use Rattle.std.specs.Prelude.{Result}
+use Rattle.refusals.specs.declared.Refused.{Refused}
+use Rattle.refusals.specs.Answer.{number_told}
 use Rattle.patch.specs.declared.Operator.{Operator}
 use Rattle.envelope_inner.specs.Envelope.{all_stages}
 use Rattle.envelope_inner.specs.Set.{operator_set, pitch_set}
@@ -16,13 +19,18 @@ use Rattle.voice_levels.proofs.Stages.{stage_at_fits, set_keeps_stages, leveled_
 use Rattle.voice.specs.declared.Voice.{Voice}
 use Rattle.voice.specs.Answers.{state_fits}
 use Rattle.voice.proofs.States.{Fits, state_fits_lem}
-use Rattle.voice.proofs.Kept.{Kept, fits_state}
+use Rattle.voice.proofs.Kept.{NoNine, fits_state}
 use Rattle.voice_render.specs.declared.Readied.{Readied}
 use Rattle.voice_render.specs.declared.VoiceParameters.{VoiceParameters}
 use Rattle.voice_render.specs.Setup.{with_setup, set_up}
 use Rattle.voice_render.specs.Block.{played_by, begun, after, levels_for, sounded}
-use Rattle.voice_render.specs.Answers.{block_fits, parameters_fit_for, readied, setup_answer, Answered, render_answer}
+use Rattle.voice_render.specs.Answers.{block_fits, parameters_fit_for, readied, voice_readied, setup_answer, Answered}
+use Rattle.voice_render.specs.Answers.{voice_rendered, render_answer}
 use Rattle.voice_render.proofs.Alike.{answer_by}
+
+-- what a block leaves: an accepted voice, and a number that is no 9
+abbrev pub KeptBlock : Answered → Type 0
+KeptBlock a = T (state_fits (voice_rendered a.answer)) × NoNine (number_told a.answer)
 
 set_up_stages : (high low : List Float) (ops : List Operator) (k : ℕ) (s : Setup)
     → T (all_stages s.operator_envelope) → T (all_stages (set_up_to high low ops k s).operator_envelope)
@@ -63,14 +71,14 @@ module _ (v : Voice) (t : T (state_fits v)) where
       go false e = t
 
   pub setup_keeps : (high low : List Float)
-      → Kept (setup_answer high low v).voice (setup_answer high low v).number
+      → T (state_fits (voice_readied (setup_answer high low v))) × NoNine (number_told (setup_answer high low v))
   unfolding setup_answer
   setup_keeps high low = rw (is_true (state_fits v) t) (go v.dirty)
     where
-      answer : Bool → Readied
-      answer b = cond b (readied 0 true (set_up high low v)) (readied 0 false v)
+      answer : Bool → Result Readied (Refused Voice)
+      answer b = cond b (readied true (set_up high low v)) (readied false v)
 
-      go : (b : Bool) → Kept (answer b).voice (answer b).number
+      go : (b : Bool) → T (state_fits (voice_readied (answer b))) × NoNine (number_told (answer b))
       go true = (set_up_fits high low, tt)
       go false = (t, tt)
 
@@ -89,7 +97,7 @@ module _ (v : Voice) (t : T (state_fits v)) where
       })
 
   pub render_keeps : (pairs high low : List Float) (p : VoiceParameters) (block : List Float)
-      → Kept (render_answer pairs high low v p block).voice (render_answer pairs high low v p block).number
+      → KeptBlock (render_answer pairs high low v p block)
   unfolding render_answer
   render_keeps pairs high low p block =
       rw (is_true (state_fits v) t) (go (block_fits (length block)) (parameters_fit_for v p) v.dirty)
@@ -97,7 +105,7 @@ module _ (v : Voice) (t : T (state_fits v)) where
       answer : Bool → Bool → Bool → Answered
       answer = answer_by pairs high low v (played_by v p) block true
 
-      go : (a b c : Bool) → Kept (answer a b c).voice (answer a b c).number
+      go : (a b c : Bool) → KeptBlock (answer a b c)
       go true true true = (set_up_fits high low, tt)
       go true true false = (sounded_fits pairs high low (played_by v p) block, tt)
       go true false c = (t, tt)

@@ -15,8 +15,10 @@ use Rattle.voice.specs.Answers.{state_fits}
 use Rattle.voice_render.specs.declared.VoiceParameters.{VoiceParameters}
 use Rattle.voice_render.specs.Setup.{with_setup, set_up}
 use Rattle.voice_render.specs.Block.{played_by, after, sounded}
-use Rattle.voice_render.specs.Answers.{block_fits, parameters_fit, parameters_fit_for, readied, setup_answer}
-use Rattle.voice_render.specs.Answers.{render_answer}
+use Rattle.refusals.specs.declared.Refusal.TheVariants.{ForeignState}
+use Rattle.refusals.specs.Answer.{refused}
+use Rattle.voice_render.specs.Answers.{block_fits, parameters_fit, parameters_fit_for, readied, voice_readied}
+use Rattle.voice_render.specs.Answers.{setup_answer, voice_rendered, render_answer}
 use Rattle.voice_render.proofs.Alike.{answer_by}
 
 -- ---- a voice that does not transpose
@@ -49,24 +51,25 @@ module _ (pairs high low : List Float) (v : Voice) where
       go e s true = refl
       go e s false = refl
 
-  pub setup_switch : (setup_answer high low v).voice.transposing ≡ v.transposing
+  pub setup_switch : (voice_readied (setup_answer high low v)).transposing ≡ v.transposing
   unfolding setup_answer
   setup_switch = go (state_fits v) v.dirty
     where
       go : (b c : Bool)
-          → (cond b (cond c (readied 0 true (set_up high low v)) (readied 0 false v))
-          (readied 9 false v)).voice.transposing ≡ v.transposing
+          → (voice_readied (cond b (cond c (readied true (set_up high low v)) (readied false v))
+          (refused ForeignState v))).transposing ≡ v.transposing
       go true true = set_up_switch
       go true false = refl
       go false c = refl
 
   pub render_switch : (p : VoiceParameters) (block : List Float)
-      → (render_answer pairs high low v p block).voice.transposing ≡ v.transposing
+      → (voice_rendered (render_answer pairs high low v p block).answer).transposing ≡ v.transposing
   unfolding render_answer sounded after
   render_switch p block = go (state_fits v) (block_fits (length block)) (parameters_fit_for v p) v.dirty
     where
       go : (a b c d : Bool)
-          → (answer_by pairs high low v (played_by v p) block a b c d).voice.transposing ≡ v.transposing
+          → (voice_rendered (answer_by pairs high low v (played_by v p) block a b c d).answer).transposing
+          ≡ v.transposing
       go true true true true = set_up_switch
       go true true true false = refl
       go true true false d = refl

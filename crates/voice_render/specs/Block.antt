@@ -15,6 +15,7 @@ use Rattle.voice.specs.Voice.{Moving, tunings_of, contents_of, rebuilt}
 use Rattle.voice_render.specs.declared.VoiceParameters.{VoiceParameters}
 use Rattle.voice_render.specs.declared.Struck.{Struck}
 use Rattle.voice_render.specs.declared.Begun.{Begun}
+use Rattle.voice_render.specs.declared.Rendered.{Rendered}
 
 -- the same parameters with another note
 abbrev pub with_note : VoiceParameters → Float → VoiceParameters
@@ -101,6 +102,10 @@ pub record Sounded : Type 0 where
   pub voice : Voice
   pub marks : List Mark
   pub block : List Float
+
+-- what a sounding block gave, with the block after it
+abbrev pub sounded_by : Rendered → List Float → Sounded
+sounded_by r block = record { voice = r.voice; marks = r.marks; block = block }
 
 module _ (pairs high low : List Float) (v : Voice) (p : VoiceParameters) where
   -- steps, marks and amplitudes in a block of n samples

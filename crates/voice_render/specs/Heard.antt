@@ -8,4 +8,4 @@ output block = cond (block_fits (length block)) (take (length block / 4) block) 
 
 -- a block's answer without the scratch
 abbrev pub heard_of : Answered → Answered
-heard_of a = record { number = a.number; marks = a.marks; voice = a.voice; block = output a.block }
+heard_of a = record { answer = a.answer; block = output a.block }

@@ -11,12 +11,14 @@ ghost use Rattle.voice_levels.specs.Levels.{all_as_asked};
 ghost use Rattle.voice.specs.Answers.{state_fits};
 ghost use Rattle.voice_render.specs.Setup.{with_setup, set_up};
 ghost use Rattle.voice_render.specs.Block.{played_by, note_on, struck, begun, restarted, entering, after, sounded};
-ghost use Rattle.voice_render.specs.Answers.{block_fits, parameters_fit, parameters_fit_for, setup_answer};
-ghost use Rattle.voice_render.specs.Answers.{answered_by, sounding, render_answer};
+ghost use Rattle.voice_render.specs.Block.{sounded_by};
+ghost use Rattle.voice_render.specs.Answers.{block_fits, parameters_fit, parameters_fit_for, checked, setup_answer};
+ghost use Rattle.voice_render.specs.Answers.{answered_by, render_answer};
 
 use dx_units_step::Mark;
 use envelope_inner::Envelope;
 use operator::Operator;
+use refusals::{Refusal, Refused};
 use voice::Voice;
 use voice_block::Operators;
 use voice_levels::{Levels, Scene};
@@ -35,10 +37,9 @@ pub struct VoiceParameters {
 }
 
 // What a block gives besides its samples. The marks tell of each operator whether its pitch was cut off: they are all
-// as asked where the block is refused, blank or empty.
+// as asked where the block is blank or empty.
 #[derive(Clone, Copy)]
 pub struct Rendered {
-    pub number: u8,
     pub marks: [Mark; 6],
     pub voice: Voice,
 }
@@ -46,7 +47,6 @@ pub struct Rendered {
 // What a setup gives: whether the voice was dirty, and the voice.
 #[derive(Clone, Copy)]
 pub struct Readied {
-    pub number: u8,
     pub was_dirty: bool,
     pub voice: Voice,
 }
@@ -66,6 +66,7 @@ pub struct Begun {
 }
 
 // Number 8.
+#[tactic(auto, unfolding(crate::specs::Answers::block_fits))]
 fn block_fits(size: usize) -> bool
     ensures { result ≡ block_fits size }
 {
@@ -85,16 +86,18 @@ fn parameters_fit(p: VoiceParameters) -> bool
 }
 
 // What a block plays: the note that takes the given one's place, and the rest as it is given.
+#[tactic(auto, unfolding(crate::specs::Block::played_by))]
 fn played_by(v: Voice, p: VoiceParameters) -> VoiceParameters
     ensures { result ≡ played_by v p }
 {
-    let patch = v.patch;
-    let mut q = p;
-    q.note = voice_note::played_note(v.transposing & v.has_patch, patch.transpose, p.note);
-    q
+    VoiceParameters {
+        note: voice_note::played_note(v.transposing & v.has_patch, v.patch.transpose, p.note),
+        ..p
+    }
 }
 
 // Number 7 in a block of this voice: the parameters first, then the note that it plays.
+#[tactic(auto, unfolding(crate::specs::Answers::parameters_fit_for))]
 fn parameters_fit_for(v: Voice, p: VoiceParameters) -> bool
     ensures { result ≡ parameters_fit_for v p }
 {
@@ -102,22 +105,27 @@ fn parameters_fit_for(v: Voice, p: VoiceParameters) -> bool
     parameters_fit(p) & patch_limits::note_fits(q.note)
 }
 
+#[tactic(auto, unfolding(crate::specs::Setup::with_setup))]
 fn with_setup(v: Voice, pitch_envelope: Envelope, s: Setup) -> Voice
     ensures { result ≡ with_setup v pitch_envelope s }
 {
-    let mut w = v;
-    let operator_envelope = s.operator_envelope;
-    let ratios = s.ratios;
-    let level_headroom = s.level_headroom;
-    w.operator_envelope = operator_envelope;
-    w.pitch_envelope = pitch_envelope;
-    w.ratios = ratios;
-    w.level_headroom = level_headroom;
-    w.dirty = false;
-    w
+    let Setup {
+        operator_envelope,
+        ratios,
+        level_headroom,
+    } = s;
+    Voice {
+        operator_envelope,
+        pitch_envelope,
+        ratios,
+        level_headroom,
+        dirty: false,
+        ..v
+    }
 }
 
 // What is computed once for a patch: envelopes, headroom and frequency ratios. A voice without one stays dirty.
+#[tactic(auto, unfolding(crate::specs::Setup::set_up))]
 fn set_up(high: &[f32; 256], low: &[f32; 256], v: Voice) -> Voice
     requires { T (state_fits v) }
     ensures { result ≡ set_up high.now low.now v }
@@ -125,53 +133,50 @@ fn set_up(high: &[f32; 256], low: &[f32; 256], v: Voice) -> Voice
     if !v.has_patch {
         return v;
     }
-    let patch = v.patch;
-    let stages = patch.pitch_envelope;
-    let rate = stages.rate;
-    let level = stages.level;
-    let e = v.pitch_envelope;
-    let pitch = envelope_inner::pitch_set(e, rate, level);
-    let operator_envelope = v.operator_envelope;
-    let ratios = v.ratios;
-    let level_headroom = v.level_headroom;
+    let stages = v.patch.pitch_envelope;
+    let pitch = envelope_inner::pitch_set(v.pitch_envelope, stages.rate, stages.level);
+    let Voice {
+        operator_envelope,
+        ratios,
+        level_headroom,
+        ..
+    } = v;
     let before = Setup {
         operator_envelope,
         ratios,
         level_headroom,
     };
-    let op = patch.op;
-    let s = voice_setup::setup_operators(high, low, v.operators, op, before);
+    let s = voice_setup::setup_operators(high, low, v.operators, v.patch.op, before);
     with_setup(v, pitch, s)
 }
 
 // The same for any voice: a clean one stays as it is.
-pub fn setup(v: Voice) -> Readied
+#[tactic(auto, unfolding(crate::specs::Answers::setup_answer))]
+pub fn setup(v: Voice) -> Result<Readied, Refused<Voice>>
     ensures { result ≡ setup_answer lut_pitch_ratio_high lut_pitch_ratio_low v }
 {
     if !voice::state_fits(v) {
-        return Readied {
-            number: 9,
-            was_dirty: false,
-            voice: v,
-        };
+        return Err(Refused {
+            refusal: Refusal::ForeignState,
+            state: v,
+        });
     }
     if !v.dirty {
-        return Readied {
-            number: 0,
+        return Ok(Readied {
             was_dirty: false,
             voice: v,
-        };
+        });
     }
     let high = units::lut_pitch_ratio_high();
     let low = units::lut_pitch_ratio_low();
-    Readied {
-        number: 0,
+    Ok(Readied {
         was_dirty: true,
         voice: set_up(&high, &low, v),
-    }
+    })
 }
 
 // The gate opens: it was closed in the last block that sounded.
+#[tactic(auto, unfolding(crate::specs::Block::note_on))]
 fn note_on(v: Voice, p: VoiceParameters) -> bool
     ensures { result ≡ note_on v p }
 {
@@ -179,6 +184,7 @@ fn note_on(v: Voice, p: VoiceParameters) -> bool
 }
 
 // Note and velocity are taken where a note begins, and in a sustained voice in each block: scalings go by them.
+#[tactic(auto, unfolding(crate::specs::Block::struck))]
 fn strike(v: Voice, p: VoiceParameters) -> Struck
     ensures { result ≡ struck v p }
 {
@@ -195,57 +201,44 @@ fn strike(v: Voice, p: VoiceParameters) -> Struck
 }
 
 // The pitch envelope and the LFO bend the note; its scalings go by the note as it was struck.
+#[tactic(auto, unfolding(crate::specs::Block::begun))]
 fn begin(high: &[f32; 256], low: &[f32; 256], v: Voice, p: VoiceParameters, n: u32) -> Begun
     requires { v.pitch_envelope.stage ≤ 3 }
     ensures { result ≡ begun high.now low.now v p n }
 {
     let t = voice_levels::timing_for(p.sustain, p.gate, v.sample_rate, p.envelope_control, n);
-    let e = v.pitch_envelope;
-    let pitch = voice_levels::follow(t, false, t.envelope_rate, e);
+    let pitch = voice_levels::follow(t, false, t.envelope_rate, v.pitch_envelope);
     let f0 = voice_levels::note_frequency(high, low, v.a0, p.note, pitch.value + p.pitch_mod);
     let s = strike(v, p);
-    let pitch_envelope = pitch.envelope;
-    let scene = Scene {
-        timing: t,
-        f0,
-        one_hz: v.one_hz,
-        note: s.note,
-        normalized_velocity: s.normalized_velocity,
-        brightness: p.brightness,
-        amp_mod: p.amp_mod,
-    };
     Begun {
-        scene,
-        pitch_envelope,
+        scene: Scene {
+            timing: t,
+            f0,
+            one_hz: v.one_hz,
+            note: s.note,
+            normalized_velocity: s.normalized_velocity,
+            brightness: p.brightness,
+            amp_mod: p.amp_mod,
+        },
+        pitch_envelope: pitch.envelope,
     }
 }
 
 fn restart(o: Operator) -> Operator
     ensures { result ≡ restarted o }
 {
-    Operator {
-        phase: 0,
-        amplitude: o.amplitude,
-    }
+    Operator { phase: 0, ..o }
 }
 
 // Phases start anew at a note-on, if the patch asks for it.
+#[tactic(auto, unfolding(crate::specs::Block::entering, crate::specs::Block::all_restarted))]
 fn enter(v: Voice, p: VoiceParameters) -> [Operator; 6]
     ensures { result ≡ entering v p }
 {
-    let o = v.operator;
-    let patch = v.patch;
-    if note_on(v, p) & (patch.reset_phase != 0) {
-        return [
-            restart(o[0]),
-            restart(o[1]),
-            restart(o[2]),
-            restart(o[3]),
-            restart(o[4]),
-            restart(o[5]),
-        ];
+    if note_on(v, p) & (v.patch.reset_phase != 0) {
+        return v.operator.map(restart);
     }
-    o
+    v.operator
 }
 
 // The marks that a block of n samples tells: no pitch of an empty one is cut off.
@@ -259,28 +252,31 @@ fn told(n: usize, marks: [Mark; 6]) -> [Mark; 6]
 }
 
 // What a block of n samples gives: its marks, and the voice after it.
+#[tactic(auto, unfolding(crate::specs::Block::after))]
 fn leave(n: usize, v: Voice, p: VoiceParameters, b: Begun, l: Levels, os: Operators) -> Rendered
-    ensures { (result.number ≡ 0) × (result.marks ≡ cond (eqb n 0) all_as_asked l.marks)
-        × (result.voice ≡ after v p b l os) }
+    ensures { result ≡ record { marks = cond (eqb n 0) all_as_asked l.marks; voice = after v p b l os } }
 {
-    let mut w = v;
-    let g = b.scene;
-    let operator = os.operator;
-    let operator_envelope = l.operator_envelope;
-    let pitch_envelope = b.pitch_envelope;
-    let feedback_state = os.feedback_state;
-    w.gate = p.gate;
-    w.operator = operator;
-    w.operator_envelope = operator_envelope;
-    w.pitch_envelope = pitch_envelope;
-    w.normalized_velocity = g.normalized_velocity;
-    w.note = g.note;
-    w.feedback_state = feedback_state;
-    let cut = l.marks;
+    let Operators {
+        operator,
+        feedback_state,
+    } = os;
+    let Levels {
+        operator_envelope,
+        marks,
+        ..
+    } = l;
     Rendered {
-        number: 0,
-        marks: told(n, cut),
-        voice: w,
+        marks: told(n, marks),
+        voice: Voice {
+            gate: p.gate,
+            operator,
+            operator_envelope,
+            pitch_envelope: b.pitch_envelope,
+            normalized_velocity: b.scene.normalized_velocity,
+            note: b.scene.note,
+            feedback_state,
+            ..v
+        },
     }
 }
 
@@ -294,54 +290,56 @@ fn render_sounding(
     block: &mut [f32],
 ) -> Rendered
     requires { T (state_fits v) × (v.dirty ≡ false) × T (block_fits (length block.old)) }
-    ensures { answered_by result block.new
-        ≡ sounding (sounded pairs.now high.now low.now v p block.old) }
+    ensures { sounded_by result block.new ≡ sounded pairs.now high.now low.now v p block.old }
 {
     let n = block.len() / 4;
     let b = begin(high, low, v, p, n as u32);
-    let g = b.scene;
-    let patch = v.patch;
-    let op = patch.op;
-    let ratios = v.ratios;
-    let level_headroom = v.level_headroom;
-    let row = v.row;
-    let e = v.operator_envelope;
-    let l = voice_levels::level_operators(g, v.operators, op, ratios, level_headroom, row, e);
-    let operator = enter(v, p);
-    let feedback_state = v.feedback_state;
+    let l = voice_levels::level_operators(
+        b.scene,
+        v.operators,
+        v.patch.op,
+        v.ratios,
+        v.level_headroom,
+        v.row,
+        v.operator_envelope,
+    );
     let before = Operators {
-        operator,
-        feedback_state,
+        operator: enter(v, p),
+        feedback_state: v.feedback_state,
     };
-    let plan = v.plan;
-    let steps = l.steps;
-    let amplitudes = l.amplitudes;
     let os = voice_block::run_plan(
         pairs,
-        plan,
+        v.plan,
         before,
-        steps,
-        amplitudes,
-        patch.feedback,
+        l.steps,
+        l.amplitudes,
+        v.patch.feedback,
         block,
     );
     leave(n, v, p, b, l, os)
 }
 
-// What a refused or a blank block gives: no pitch of it is cut off.
-fn unheard(number: u8, voice: Voice) -> Rendered
-    ensures { result ≡ record { number = number; marks = all_as_asked; voice = voice } }
+// Numbers 9, 8 and 7.
+#[tactic(auto, unfolding(crate::specs::Answers::checked))]
+fn check(v: Voice, p: VoiceParameters, size: usize) -> Result<(), Refusal>
+    ensures { result ≡ checked v p size }
 {
-    Rendered {
-        number,
-        marks: voice_levels::all_as_asked(),
-        voice,
+    if !voice::state_fits(v) {
+        return Err(Refusal::ForeignState);
     }
+    if !block_fits(size) {
+        return Err(Refusal::BlockLength);
+    }
+    if !parameters_fit_for(v, p) {
+        return Err(Refusal::Parameter);
+    }
+    Ok(())
 }
 
 // A block, with the tables lent. A dirty voice's is blank: it sets up and touches no buffer. The old hardware had no
 // time for both in one block, and a short clean gap before a new patch was preferred to a glitch. A blank block does
 // not record the gate, so the note that is held over it is struck in the block behind it.
+#[tactic(auto, unfolding(crate::specs::Answers::render_answer, crate::specs::Answers::checked))]
 pub fn render_with(
     pairs: &[f32; 1024],
     high: &[f32; 256],
@@ -349,28 +347,23 @@ pub fn render_with(
     v: Voice,
     p: VoiceParameters,
     block: &mut [f32],
-) -> Rendered
+) -> Result<Rendered, Refused<Voice>>
     ensures { answered_by result block.new
         ≡ render_answer pairs.now high.now low.now v p block.old }
 {
-    if !voice::state_fits(v) {
-        return unheard(9, v);
-    }
-    if !block_fits(block.len()) {
-        return unheard(8, v);
-    }
-    if !parameters_fit_for(v, p) {
-        return unheard(7, v);
-    }
+    check(v, p, block.len()).map_err(|refusal| Refused { refusal, state: v })?;
     if v.dirty {
-        return unheard(0, set_up(high, low, v));
+        return Ok(Rendered {
+            marks: voice_levels::all_as_asked(),
+            voice: set_up(high, low, v),
+        });
     }
     let q = played_by(v, p);
-    render_sounding(v, q, pairs, high, low, block)
+    Ok(render_sounding(v, q, pairs, high, low, block))
 }
 
 // A block: the output and scratch 1 to 3, a quarter each.
-pub fn render(v: Voice, p: VoiceParameters, block: &mut [f32]) -> Rendered
+pub fn render(v: Voice, p: VoiceParameters, block: &mut [f32]) -> Result<Rendered, Refused<Voice>>
     ensures { answered_by result block.new
         ≡ render_answer sine_pairs lut_pitch_ratio_high lut_pitch_ratio_low v p block.old }
 {

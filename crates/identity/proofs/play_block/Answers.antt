@@ -9,4 +9,4 @@ unfolding decimal of_bits
 returns c =
     block_played_of _ _ _ _ _ _ _ c.step_with-moved.ensures c.pitch_mod-pitch.ensures
     c.amp_mod-amp.ensures c.parameters-p.ensures c.render_with-rendered.ensures
-    c.hash_output-hash.ensures
+    c.hash_output-hash.ensures c.voice_rendered-voice.ensures

@@ -7,4 +7,4 @@ use Rattle.voice.proofs.voice_with.Goals as goal
 
 pub returns : goal.returns
 unfolding voice_with decimal of_bits six
-returns c = simp (c.no_plan-plan.ensures, c.new-patch.ensures, c.new-o.ensures, c.init-e.ensures)
+returns c = simp (c.no_plan.ensures, c.new-2.ensures, c.new.ensures, c.init-e.ensures)

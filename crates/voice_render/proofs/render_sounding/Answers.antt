@@ -30,5 +30,4 @@ run_plan-os-requires c =
 pub returns : goal.returns
 returns c =
     sounded_of _ _ _ _ _ _ c.begin-b.ensures c.level_operators-l.ensures
-    c.enter-operator.ensures c.run_plan-os.ensures c.leave.ensures.0 c.leave.ensures.1
-    c.leave.ensures.2
+    c.enter.ensures c.run_plan-os.ensures c.leave.ensures
