@@ -11,6 +11,7 @@ ghost use Rattle.dump.specs.Dump.{dump_check, dump_channel};
 use refusals::Refusal;
 
 // A byte of a frame: the least and the largest number that may stand there.
+// Stays: a RangeInclusive is no Copy, and keeps besides whether it is used up.
 #[derive(Clone, Copy)]
 pub struct Row {
     pub from: u8,

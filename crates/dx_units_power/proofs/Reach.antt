@@ -216,4 +216,5 @@ fallen x {q} {p} v eu ep es er =
     ap (λ (n : ℕ). n % 2 ^ 32) (omega (arith, mod-lt ((q + 1) * 2 ^ 23) (pow_pos 32))) in
     let w : whole_below x ≡ negsuc q = falling_whole x v ∙ ap negsuc (sym eu) in
     let l : q < 126 = omega (arith, eu, falling_count x v) in
-    simp (w, er, es ∙ d, ep, away x q) (ap (of_bits binary32) (taken (mantissa_bits (x ⊕ as_float (q + 1)) (pos 2)) q l))
+    simp (w, er, es ∙ d, ep, away x q)
+    (ap (of_bits binary32) (taken (mantissa_bits (x ⊕ as_float (q + 1)) (pos 2)) q l))

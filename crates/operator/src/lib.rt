@@ -240,6 +240,7 @@ fn render<M: Modulation, const N: usize>(
 {
     let mut lanes = chain.lanes;
     let mut feedback = chain.feedback;
+    // Stays: what modulates by its index. Under out.iter_mut().zip(..) the proof does not know what is written.
     for (i, o) in out.iter_mut().enumerate() {
         let mut pm = modulation.enter(i, feedback);
         for lane in lanes.iter_mut() {
@@ -341,6 +342,7 @@ fn near(
     let [mut lane] = chain.lanes;
     let mut at = [0u32; 64];
     let mut i = 0usize;
+    // Stays: parts by a while. Under out.chunks_mut(64) the proof does not know what is written.
     while i < out.len() {
         let n = (out.len() - i).min(64);
         set_phases(modulation, i, n, lane.phase, lane.step, &mut at);

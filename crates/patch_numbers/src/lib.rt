@@ -8,8 +8,10 @@ ghost use Rattle.patch.specs.Positions.{envelope_position, scaling_position, ope
 ghost use Rattle.patch_numbers.specs.Numbers.{numbers_of, patch_of, operator_numbers, shared_numbers};
 
 use patch::{Envelope, KeyboardScaling, ModulationParameters, Operator, Patch};
+use std::array;
 
 // An operator's 21 numbers.
+// Stays: a table, a field a line; copying the arrays into it would need a place for each part, and is no plainer.
 fn operator_numbers(o: Operator) -> [u8; 21]
     ensures { result ≡ operator_numbers o }
 {
@@ -46,6 +48,7 @@ fn operator_numbers(o: Operator) -> [u8; 21]
 }
 
 // The 29 numbers behind the operators'.
+// Stays: a table, as an operator's.
 fn shared_numbers(p: Patch) -> [u8; 29]
     ensures { result ≡ shared_numbers p }
 {
@@ -94,16 +97,11 @@ fn shared_numbers(p: Patch) -> [u8; 29]
 pub fn numbers(patch: Patch) -> [u8; 155]
     ensures { result ≡ numbers_of patch }
 {
-    let op = patch.op;
     let mut out = [0u8; 155];
-    let mut i = 0usize;
-    while i < 6 {
-        let n = operator_numbers(op[i]);
-        lent_bytes::put(&mut out, 21 * i, &n);
-        i += 1;
+    for (k, o) in patch.op.iter().enumerate() {
+        lent_bytes::put(&mut out, 21 * k, &operator_numbers(*o));
     }
-    let n = shared_numbers(patch);
-    lent_bytes::put(&mut out, 126, &n);
+    lent_bytes::put(&mut out, 126, &shared_numbers(patch));
     out
 }
 
@@ -112,9 +110,10 @@ fn envelope_of(s: &[u8], at: usize) -> Envelope
     requires { at + 8 ≤ length s.now }
     ensures { result ≡ envelope_with (λ n. get_or s.now (at + envelope_position n) 0) }
 {
-    let rate = [s[at], s[at + 1], s[at + 2], s[at + 3]];
-    let level = [s[at + 4], s[at + 5], s[at + 6], s[at + 7]];
-    Envelope { rate, level }
+    Envelope {
+        rate: array::from_fn(|i| s[at + i]),
+        level: array::from_fn(|i| s[at + 4 + i]),
+    }
 }
 
 // The keyboard scaling of the operator whose first number stands at `at`.
@@ -136,11 +135,9 @@ fn operator_of(s: &[u8], at: usize) -> Operator
     requires { at + 21 ≤ length s.now }
     ensures { result ≡ operator_with (λ n. get_or s.now (at + operator_position n) 0) }
 {
-    let envelope = envelope_of(s, at);
-    let keyboard_scaling = scaling_of(s, at);
     Operator {
-        envelope,
-        keyboard_scaling,
+        envelope: envelope_of(s, at),
+        keyboard_scaling: scaling_of(s, at),
         rate_scaling: s[at + 13],
         amp_mod_sensitivity: s[at + 15],
         velocity_sensitivity: s[at + 16],
@@ -152,6 +149,7 @@ fn operator_of(s: &[u8], at: usize) -> Operator
     }
 }
 
+// Stays: as `array::from_fn(|k| operator_of(s, 21 * k))` it got no proof: `grind` stopped at its limit of case splits.
 fn operators_of(s: &[u8]) -> [Operator; 6]
     requires { length s.now ≡ 155 }
     ensures { result ≡ (patch_of s.now).op }
@@ -181,32 +179,27 @@ fn modulations_of(s: &[u8]) -> ModulationParameters
     }
 }
 
+#[tactic(auto, unfolding(patch::specs::Form::name_with, patch::specs::Positions::position))]
 fn name_of(s: &[u8]) -> [u8; 10]
     requires { length s.now ≡ 155 }
     ensures { result ≡ name_with (λ n. get_or s.now (position n) 0) }
 {
-    [
-        s[145], s[146], s[147], s[148], s[149], s[150], s[151], s[152], s[153], s[154],
-    ]
+    array::from_fn(|i| s[145 + i])
 }
 
 // The patch with these numbers, all six operators active.
 pub fn patch_of(numbers: &[u8; 155]) -> Patch
     ensures { result ≡ patch_of numbers.now }
 {
-    let op = operators_of(numbers);
-    let pitch_envelope = envelope_of(numbers, 126);
-    let modulations = modulations_of(numbers);
-    let name = name_of(numbers);
     Patch {
-        op,
-        pitch_envelope,
+        op: operators_of(numbers),
+        pitch_envelope: envelope_of(numbers, 126),
         algorithm: numbers[134],
         feedback: numbers[135],
         reset_phase: numbers[136],
-        modulations,
+        modulations: modulations_of(numbers),
         transpose: numbers[144],
-        name,
+        name: name_of(numbers),
         active_operators: 63,
     }
 }

@@ -12,6 +12,7 @@ use refusals::Refusal;
 
 // The 17 bytes of an operator that fits, as a table in layout order: its numbers as they are, each lies within its
 // field's bits.
+// Stays: a table, a byte a line; copying the arrays into it would need a place for each part, and is no plainer.
 fn operator_bytes(o: Operator) -> [u8; 17]
     requires { operator_fits o ≡ true }
     ensures { result ≡ operator_bytes o }
@@ -44,6 +45,7 @@ fn operator_bytes(o: Operator) -> [u8; 17]
 }
 
 // The 26 bytes behind the operators, of a patch that fits, as such a table.
+// Stays: as an operator's.
 fn shared_bytes(p: Patch) -> [u8; 26]
     requires { patch_fits p ≡ true }
     ensures { result ≡ shared_bytes p }

@@ -1,48 +1,56 @@
 -- Pieces of text one after the other, and how long they are.
 -- Assumes nothing.
 use mathlib.Core.Path.{◌≡◌, refl, sym, ap, ◌∙◌}
-use Prim.Native.Nat.{ℕ, suc, ◌+◌, ◌*◌, ◌/◌, ◌≤◌, ◌<◌}
-use native.Mathlib.Nat.{add-zero}
+use Prim.Native.Nat.{ℕ, ◌+◌, ◌*◌, ◌/◌, ◌≤◌, ◌<◌}
 use native.Mathlib.Numerals.{add-one}
 use native.Mathlib.Omega.{arith}
 use mathlib.Core.Bool.{Bool, true, false, cond}
 use mathlib.Core.List.{List, [], ◌∷◌, ◌++◌, append_assoc, append-nil}
-use lib.ListN.{length, get_or, set, drop, take, length-append, length-take}
+use lib.ListN.{length, get_or, take, length-append, length-take}
 use lib.Dec.{eqb}
-use lib.Seq.{sets, length-sets, length-take-le, drop-cons, take-suc}
+use lib.Seq.{sets, length-sets, length-take-le, take-suc, take_all}
+use borrow.Rule.Slice.PartMut.{post_of}
+use Rattle.std.proofs.lemmas.List.Edits.{sets-eq}
 use Rattle.algorithms.specs.Plan.{no_call, planned}
 use Rattle.algorithms.specs.Table.{six}
-use Rattle.std.specs.Prelude.{Result, Ok, Err}
+use Rattle.std.specs.Prelude.{Result, Ok, Err, IfOk}
 use Rattle.refusals.specs.declared.Refusal.{Refusal}
-use Rattle.refusals.specs.Answer.{number_of, place_of}
+use Rattle.refusals.specs.declared.Refusal.TheVariants.{ShortPatch, WrongTable, NoRenderer, UnsetBuffer, SampleRate}
+use Rattle.refusals.specs.declared.Refusal.TheVariants.{Field, Parameter, BlockLength, ForeignState, WrongLength}
+use Rattle.refusals.specs.declared.Refusal.TheVariants.{FrameByte, HighByte, Checksum}
 use Rattle.algorithms.specs.declared.Plan.{Plan}
 use Rattle.algorithms.proofs.Accepted.{accepted_six, planned_few}
 use Rattle.algorithms.specs.declared.Call.{Call}
-use Rattle.plan_text.specs.Text.{Written, word_none, word_at, digit, at_text, word_feedback, word_external, hex_digit}
+use Rattle.plan_text.specs.Text.{Written, word_row, word_none, at_text, word_feedback, word_external, hex_digit}
 use Rattle.plan_text.specs.Text.{bytes_text, row_text, count_text, source_text, way_text, call_text, calls_text}
 use Rattle.plan_text.specs.Text.{refusal_text, planned_text, plan_text}
 
--- two runs of stores are one
-sets_append : (xs ys l : List ℕ) (i : ℕ) → sets (sets l i xs) (i + length xs) ys ≡ sets l i (xs ++ ys)
-sets_append [] ys l i = rw add-zero
-sets_append (x ∷ xs) ys l i =
-    let e : i + suc (length xs) ≡ suc i + length xs = omega arith in
-    rw e (sets_append xs ys (set l i x) (suc i))
+-- a text with a piece more is as long as both
+pub longer : {t : List ℕ} (before piece : List ℕ) → t ≡ before ++ piece → length t ≡ length before + length piece
+longer before piece e = ap length e ∙ length-append before piece
 
--- a piece behind a piece
-pub then : (before middle after : List ℕ) (at b c : ℕ) (p q : List ℕ) → Written before at p middle b
-    → Written middle b q after c → Written before at (p ++ q) after c
-then before middle after at b c p q v w = record {
-  next_place = omega (arith, v.next_place, w.next_place, length-append p q);
-  buffer = w.buffer ∙ rw (v.buffer, v.next_place) (sets_append p q before at);
-}
+-- pieces one behind the other are one piece
+pub two_pieces : {a b : List ℕ} (t p q : List ℕ) → a ≡ t ++ p → b ≡ a ++ q → b ≡ t ++ (p ++ q)
+two_pieces t p q e f = f ∙ rw e (append_assoc t p q)
 
--- a loop over elements: what is still to come is written behind what was
-pub put_more : (out l : List ℕ) (at k : ℕ) → k < length l
-    → sets out (at + k) (drop k l) ≡ sets (set out (at + k) (get_or l k 0)) (at + (k + 1)) (drop (k + 1) l)
-put_more out l at k h =
-    let e : at + (k + 1) ≡ suc (at + k) = omega arith in
-    rw (drop-cons l k 0 h, e, add-one)
+pub three_pieces : {a b c : List ℕ} (t p q r : List ℕ) → a ≡ t ++ p → b ≡ a ++ q → c ≡ b ++ r → c ≡ t ++ (p ++ (q ++ r))
+three_pieces {a} {b} t p q r e f g = two_pieces t p (q ++ r) e (two_pieces a q r f g)
+
+pub four_pieces : {a b c d : List ℕ} (t p q r s : List ℕ) → a ≡ t ++ p → b ≡ a ++ q → c ≡ b ++ r → d ≡ c ++ s
+    → d ≡ t ++ (p ++ (q ++ (r ++ s)))
+four_pieces {a} {b} {c} t p q r s e f g h = two_pieces t p (q ++ (r ++ s)) e (three_pieces a q r s f g h)
+
+-- the element that a loop is at
+pub call_at : {b : List ℕ} {c : Call} (a : List ℕ) (l : List Call) (k : ℕ) → c ≡ get_or l k no_call → b ≡ a ++ call_text c
+    → b ≡ a ++ call_text (get_or l k no_call)
+call_at a l k e f = rw (← e) f
+
+-- a text that is stored at a buffer's start
+pub stored : (out text : List ℕ) (n : ℕ) {start : List ℕ} → start ≡ text → n ≡ length text → length text ≤ length out
+    → start ++ post_of 0 n out ≡ sets out 0 text
+stored out text n e k h =
+    let z : 0 + length text ≡ length text = omega arith in
+    rw (e, k) (sym (rw z at (sets-eq text out 0 (omega arith))))
 
 -- ---- the lines
 
@@ -55,20 +63,48 @@ pub bytes_more : (l : List ℕ) (k : ℕ) → k < length l → bytes_text (take 
 unfolding bytes_text
 bytes_more l k h = rw (add-one, take-suc l k 0 h) (bytes_append (take k l) (get_or l k 0 ∷ []))
 
-pub bytes_size : (l : List ℕ) → length (bytes_text l) ≡ 3 * length l
-unfolding bytes_text
-bytes_size [] = refl
-bytes_size (x ∷ l) = omega (arith, bytes_size l)
-
 calls_append : (xs ys : List Call) → calls_text (xs ++ ys) ≡ calls_text xs ++ calls_text ys
 unfolding calls_text
 calls_append [] ys = refl
 calls_append (x ∷ xs) ys = rw (calls_append xs ys, append_assoc)
 
+pub bytes_size : (l : List ℕ) → length (bytes_text l) ≡ 3 * length l
+unfolding bytes_text
+bytes_size [] = refl
+bytes_size (x ∷ l) = omega (arith, bytes_size l)
+
+-- the line of a row as far as its bytes are written
+pub row_so_far : {t : List ℕ} (before bytes : List ℕ) (k : ℕ) → k ≤ length bytes
+    → t ≡ before ++ (word_row ++ bytes_text (take k bytes)) → length t ≡ length before + 3 + 3 * k
+row_so_far before bytes k h e =
+    omega (arith, longer before (word_row ++ bytes_text (take k bytes)) e, bytes_size (take k bytes), length-take-le k bytes h)
+
+pub row_more : {a b c d : List ℕ} (t l : List ℕ) (k : ℕ) → k < length l → a ≡ t ++ (word_row ++ bytes_text (take k l))
+    → b ≡ a ++ (32 ∷ []) → c ≡ b ++ (hex_digit (get_or l k 0 / 16) ∷ []) → d ≡ c ++ (hex_digit (get_or l k 0) ∷ [])
+    → d ≡ t ++ (word_row ++ bytes_text (take (k + 1) l))
+row_more t l k h e₁ e₂ e₃ e₄ =
+    let p = word_row ++ bytes_text (take k l) in
+    let x = hex_digit (get_or l k 0 / 16) in
+    let y = hex_digit (get_or l k 0) in
+    two_pieces t (p ++ (32 ∷ [])) (x ∷ y ∷ []) (two_pieces t p (32 ∷ []) e₁ e₂) (two_pieces _ (x ∷ []) (y ∷ []) e₃ e₄)
+    ∙ rw (bytes_more l k h) (ap (λ (r : List ℕ). t ++ r) (append_assoc p (32 ∷ []) (x ∷ y ∷ []) ∙ append_assoc word_row (bytes_text (take k l)) (32 ∷ x ∷ y ∷ [])))
+
+pub row_done : {a b : List ℕ} (t l : List ℕ) (k : ℕ) → length l ≤ k → a ≡ t ++ (word_row ++ bytes_text (take k l))
+    → b ≡ a ++ (10 ∷ []) → b ≡ t ++ row_text l
+unfolding row_text
+row_done t l k h e f =
+    two_pieces t (word_row ++ bytes_text l) (10 ∷ []) (e ∙ rw (take_all k l h) refl) f
+    ∙ ap (λ (r : List ℕ). t ++ r) (append_assoc word_row (bytes_text l) (10 ∷ []))
+
 pub calls_more : (l : List Call) (k : ℕ) → k < length l
     → calls_text (take (k + 1) l) ≡ calls_text (take k l) ++ call_text (get_or l k no_call)
 unfolding calls_text
 calls_more l k h = rw (add-one, take-suc l k no_call h) (calls_append (take k l) (get_or l k no_call ∷ []) ∙ rw append-nil)
+
+-- a line for each call
+pub call_more : {a b : List ℕ} (t : List ℕ) (l : List Call) (k : ℕ) → k < length l → a ≡ t ++ calls_text (take k l)
+    → b ≡ a ++ call_text (get_or l k no_call) → b ≡ t ++ calls_text (take (k + 1) l)
+call_more t l k h e f = rw (calls_more l k h) (two_pieces t (calls_text (take k l)) (call_text (get_or l k no_call)) e f)
 
 -- ---- how long they are
 
@@ -81,7 +117,7 @@ source_size input = pick (eqb input 0) (eqb input 3)
     pick false true = omega arith
     pick false false = omega arith
 
-way_size : (add : Bool) → length (way_text add) ≡ 4
+pub way_size : (add : Bool) → length (way_text add) ≡ 4
 unfolding way_text
 way_size true = refl
 way_size false = refl
@@ -113,13 +149,39 @@ module _ (bytes : List ℕ) (p : Plan) (e : planned (length bytes) (six bytes) �
   pub calls_most : p.count ≤ 6
   calls_most = omega (arith, row_most, planned_few (length bytes) (six bytes) p e)
 
-at_size : (number at : ℕ) → length (at_text number at) ≤ 6
+-- a refusal that names no operator
+pub at_other : (e : Refusal) → ((at : ℕ) → e ≡ NoRenderer at → ⊥) → ((at : ℕ) → e ≡ UnsetBuffer at → ⊥)
+    → at_text e ≡ 10 ∷ []
 unfolding at_text
-at_size number at = pick (eqb number 2)
-  where
-    pick : (b : Bool) → length (cond b (10 ∷ []) (word_at ++ (digit at ∷ 10 ∷ []))) ≤ 6
-    pick true = omega arith
-    pick false = omega arith
+at_other (NoRenderer at) h k = absurd (h at refl)
+at_other (UnsetBuffer at) h k = absurd (k at refl)
+at_other ShortPatch h k = refl
+at_other WrongTable h k = refl
+at_other SampleRate h k = refl
+at_other Field h k = refl
+at_other Parameter h k = refl
+at_other BlockLength h k = refl
+at_other ForeignState h k = refl
+at_other WrongLength h k = refl
+at_other FrameByte h k = refl
+at_other HighByte h k = refl
+at_other Checksum h k = refl
+
+at_size : (e : Refusal) → length (at_text e) ≤ 6
+unfolding at_text
+at_size (NoRenderer at) = omega arith
+at_size (UnsetBuffer at) = omega arith
+at_size ShortPatch = omega arith
+at_size WrongTable = omega arith
+at_size SampleRate = omega arith
+at_size Field = omega arith
+at_size Parameter = omega arith
+at_size BlockLength = omega arith
+at_size ForeignState = omega arith
+at_size WrongLength = omega arith
+at_size FrameByte = omega arith
+at_size HighByte = omega arith
+at_size Checksum = omega arith
 
 -- the whole text fits the buffer
 pub text_size : (bytes : List ℕ) → length (plan_text bytes) ≤ 160
@@ -130,7 +192,13 @@ text_size bytes = go (planned (length bytes) (six bytes)) refl
     go (Ok p) e =
         let k = length-take p.count p.calls in
         simp length-append (omega (arith, row_size bytes, row_most bytes p e, calls_most bytes p e, count_size p.count, calls_size (take p.count p.calls), k))
-    go (Err r) e = omega (arith, at_size (number_of r) (place_of r))
+    go (Err r) e = omega (arith, at_size r)
+
+-- an accepted row is short, and so is its plan
+pub few : (bytes : List ℕ) (r : Result Plan Refusal) → r ≡ planned (length bytes) (six bytes)
+    → IfOk r (λ p. (length bytes ≤ 6) × (p.count ≤ 6))
+few bytes (Ok p) e = (row_most bytes p (sym e), calls_most bytes p (sym e))
+few bytes (Err r) e = tt
 
 -- what was printed lies within the buffer, and the part of the buffer that holds it is as long as it
 module _ (before after bytes : List ℕ) (r : ℕ) (l : length before ≡ 160) (w : Written before 0 (plan_text bytes) after r) where

@@ -4,7 +4,10 @@ use Rattle.std.proofs.lemmas.List.Edits.{sets}
 use Rattle.algorithms.specs.declared.Call.{Call}
 use Rattle.algorithms.specs.declared.Plan.{Plan}
 use Rattle.refusals.specs.declared.Refusal.{Refusal}
-use Rattle.refusals.specs.Answer.{number_of, place_of}
+use Rattle.refusals.specs.declared.Refusal.TheVariants.{ShortPatch, WrongTable, NoRenderer, UnsetBuffer, SampleRate}
+use Rattle.refusals.specs.declared.Refusal.TheVariants.{Field, Parameter, BlockLength, ForeignState, WrongLength}
+use Rattle.refusals.specs.declared.Refusal.TheVariants.{FrameByte, HighByte, Checksum}
+use Rattle.refusals.specs.Answer.{number_of}
 use Rattle.algorithms.specs.Plan.{planned}
 use Rattle.algorithms.specs.Table.{six}
 
@@ -87,17 +90,29 @@ unfoldable pub calls_text : List Call → List ℕ
 calls_text [] = []
 calls_text (c ∷ cs) = call_text c ++ calls_text cs
 
--- a refusal's line; 2 names no operator
-unfoldable pub at_text : ℕ → ℕ → List ℕ
-at_text number at = cond (eqb number 2) (10 ∷ []) (word_at ++ (digit at ∷ 10 ∷ []))
+-- a refusal's line; only 3 and 4 name an operator
+unfoldable pub at_text : Refusal → List ℕ
+at_text (NoRenderer at) = word_at ++ (digit at ∷ 10 ∷ [])
+at_text (UnsetBuffer at) = word_at ++ (digit at ∷ 10 ∷ [])
+at_text ShortPatch = 10 ∷ []
+at_text WrongTable = 10 ∷ []
+at_text SampleRate = 10 ∷ []
+at_text Field = 10 ∷ []
+at_text Parameter = 10 ∷ []
+at_text BlockLength = 10 ∷ []
+at_text ForeignState = 10 ∷ []
+at_text WrongLength = 10 ∷ []
+at_text FrameByte = 10 ∷ []
+at_text HighByte = 10 ∷ []
+at_text Checksum = 10 ∷ []
 
-unfoldable pub refusal_text : ℕ → ℕ → List ℕ
-refusal_text number at = word_refused ++ (digit number ∷ at_text number at)
+unfoldable pub refusal_text : Refusal → List ℕ
+refusal_text e = word_refused ++ (digit (number_of e) ∷ at_text e)
 
 -- the whole text for what was compiled of the bytes
 unfoldable pub planned_text : List ℕ → Result Plan Refusal → List ℕ
 planned_text bytes (Ok p) = row_text bytes ++ (count_text p.count ++ calls_text (take p.count p.calls))
-planned_text bytes (Err e) = refusal_text (number_of e) (place_of e)
+planned_text bytes (Err e) = refusal_text e
 
 -- the whole text for a raw row; every length but 4 and 6 is refused with 2
 unfoldable pub plan_text : List ℕ → List ℕ

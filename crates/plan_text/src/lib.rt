@@ -1,167 +1,157 @@
-// The plan printer (added to what the Rust has): the text for one raw row, as bytes at the start of a lent buffer. It
-// promises the definition's text, and that what stood behind it stays.
+// The plan printer (added to what the Rust has): the text for one raw row, put together in a string of fixed room, as
+// bytes at the start of a lent buffer. It promises the definition's text, and that what stood behind it stays.
 #![tactic(auto)]
 
-ghost use Rattle.std.specs.Prelude.{◌≡◌, [], ◌∷◌, ◌+◌, ◌*◌, ◌≤◌, ◌<◌, length, take};
-ghost use Rattle.plan_text.specs.Text.{Written, digit, hex_digit, bytes_text, row_text, count_text, source_text};
-ghost use Rattle.plan_text.specs.Text.{way_text, call_text, calls_text, at_text, refusal_text, plan_text};
+ghost use Rattle.std.specs.Prelude.{◌≡◌, [], ◌∷◌, ◌++◌, ◌+◌, ◌*◌, ◌≤◌, length, IfOk};
+ghost use Rattle.plan_text.specs.Text.{Written, digit, hex_digit, row_text, count_text, source_text, way_text};
+ghost use Rattle.plan_text.specs.Text.{call_text, calls_text, at_text, refusal_text, planned_text, plan_text};
 
-use algorithms::{Call, Plan};
+use algorithms::{Call, FEEDBACK, Plan, UNMODULATED};
+use arrayvec::ArrayString;
+use refusals::Refusal;
 
-fn digit_of(d: u8) -> u8
-    ensures { result ≡ digit d }
+// The bytes that the longest text takes, with room to spare.
+const ROOM: usize = 160;
+
+// A number of one digit.
+#[tactic(auto, unfolding(crate::specs::Text::digit))]
+fn push_digit(text: &mut ArrayString<ROOM>, d: u8)
+    requires { length text.old.bytes + 1 ≤ 160 }
+    ensures { text.new.bytes ≡ text.old.bytes ++ digit d ∷ [] }
 {
-    48 + d % 10
+    text.push((b'0' + d % 10) as char);
 }
 
-fn hex_digit(d: u8) -> u8
-    ensures { result ≡ hex_digit d }
+#[tactic(auto, unfolding(crate::specs::Text::hex_digit))]
+fn push_hex_digit(text: &mut ArrayString<ROOM>, d: u8)
+    requires { length text.old.bytes + 1 ≤ 160 }
+    ensures { text.new.bytes ≡ text.old.bytes ++ hex_digit d ∷ [] }
 {
     let x = d % 16;
-    if x < 10 {
-        return 48 + x;
-    }
-    87 + x
+    let digit = if x < 10 { b'0' + x } else { b'a' - 10 + x };
+    text.push(digit as char);
 }
 
-// A piece of text at a place; the answer is the place behind it.
-fn put(out: &mut [u8; 160], at: usize, piece: &[u8]) -> usize
-    requires { at + length piece.now ≤ 160 }
-    ensures { Written out.old at piece.now out.new result }
+fn push_row(text: &mut ArrayString<ROOM>, bytes: &[u8])
+    requires { length text.old.bytes + 3 * length bytes.now + 4 ≤ 160 }
+    ensures { text.new.bytes ≡ text.old.bytes ++ row_text bytes.now }
 {
-    let mut k = 0usize;
-    while k < piece.len() {
-        out[at + k] = piece[k];
-        k = k + 1;
+    text.push_str("row");
+    for byte in bytes {
+        text.push_str(" ");
+        push_hex_digit(text, *byte / 16);
+        push_hex_digit(text, *byte);
     }
-    at + k
+    text.push_str("\n");
 }
 
-fn put_bytes(out: &mut [u8; 160], at: usize, bytes: &[u8]) -> usize
-    requires { at + 3 * length bytes.now ≤ 160 }
-    ensures { Written out.old at (bytes_text bytes.now) out.new result }
+#[tactic(auto, unfolding(crate::specs::Text::count_text))]
+fn push_count(text: &mut ArrayString<ROOM>, n: u8)
+    requires { length text.old.bytes + 8 ≤ 160 }
+    ensures { text.new.bytes ≡ text.old.bytes ++ count_text n }
 {
-    let mut place = at;
-    let mut k = 0usize;
-    while k < bytes.len() {
-        let high = hex_digit(bytes[k] / 16);
-        let low = hex_digit(bytes[k]);
-        place = put(out, place, &[32, high, low]);
-        k = k + 1;
-    }
-    place
+    text.push_str("calls ");
+    push_digit(text, n);
+    text.push_str("\n");
 }
 
-fn put_row(out: &mut [u8; 160], bytes: &[u8]) -> usize
-    requires { length bytes.now ≤ 6 }
-    ensures { Written out.old 0 (row_text bytes.now) out.new result }
+#[tactic(auto, unfolding(crate::specs::Text::source_text))]
+fn source(input: u8) -> &'static str
+    ensures { result.now ≡ source_text input }
 {
-    let a = put(out, 0, b"row");
-    let b = put_bytes(out, a, bytes);
-    put(out, b, b"\n")
+    match input {
+        UNMODULATED => "none ",
+        FEEDBACK => "feedback ",
+        _ => "external ",
+    }
 }
 
-fn put_count(out: &mut [u8; 160], at: usize, n: u8) -> usize
-    requires { at + 8 ≤ 160 }
-    ensures { Written out.old at (count_text n) out.new result }
+#[tactic(auto, unfolding(crate::specs::Text::way_text))]
+fn way(add: bool) -> &'static str
+    ensures { result.now ≡ way_text add }
 {
-    let a = put(out, at, b"calls ");
-    let d = digit_of(n);
-    put(out, a, &[d, 10])
-}
-
-fn put_source(out: &mut [u8; 160], at: usize, input: u8) -> usize
-    requires { at + 9 ≤ 160 }
-    ensures { Written out.old at (source_text input) out.new result }
-{
-    if input == 0 {
-        return put(out, at, b"none ");
-    }
-    if input == 3 {
-        return put(out, at, b"feedback ");
-    }
-    put(out, at, b"external ")
-}
-
-fn put_way(out: &mut [u8; 160], at: usize, add: bool) -> usize
-    requires { at + 4 ≤ 160 }
-    ensures { Written out.old at (way_text add) out.new result }
-{
-    if add {
-        return put(out, at, b"add\n");
-    }
-    put(out, at, b"set\n")
+    if add { "add\n" } else { "set\n" }
 }
 
 // Two numbers, each with a space behind it.
-fn put_numbers(out: &mut [u8; 160], at: usize, a: u8, b: u8) -> usize
-    requires { at + 4 ≤ 160 }
-    ensures { Written out.old at (digit a ∷ 32 ∷ digit b ∷ 32 ∷ []) out.new result }
+fn push_numbers(text: &mut ArrayString<ROOM>, a: u8, b: u8)
+    requires { length text.old.bytes + 4 ≤ 160 }
+    ensures { text.new.bytes ≡ text.old.bytes ++ (digit a ∷ 32 ∷ digit b ∷ 32 ∷ []) }
 {
-    let d = digit_of(a);
-    let e = digit_of(b);
-    put(out, at, &[d, 32, e, 32])
+    push_digit(text, a);
+    text.push_str(" ");
+    push_digit(text, b);
+    text.push_str(" ");
 }
 
-fn put_call(out: &mut [u8; 160], at: usize, c: Call) -> usize
-    requires { at + 21 ≤ 160 }
-    ensures { Written out.old at (call_text c) out.new result }
+fn push_call(text: &mut ArrayString<ROOM>, c: &Call)
+    requires { length text.old.bytes + 21 ≤ 160 }
+    ensures { text.new.bytes ≡ text.old.bytes ++ call_text c.now }
 {
-    let a = put_numbers(out, at, c.first, c.n);
-    let b = put_source(out, a, c.input);
-    let d = put_numbers(out, b, c.input, c.output);
-    put_way(out, d, c.add)
+    push_numbers(text, c.first, c.n);
+    text.push_str(source(c.input));
+    push_numbers(text, c.input, c.output);
+    text.push_str(way(c.add));
 }
 
-fn put_calls(out: &mut [u8; 160], at: usize, plan: Plan) -> usize
-    requires { (at ≤ 30) × (plan.count ≤ 6) }
-    ensures { Written out.old at (calls_text (take plan.count plan.calls))
-        out.new result }
+fn push_calls(text: &mut ArrayString<ROOM>, calls: &[Call])
+    requires { length text.old.bytes + 21 * length calls.now ≤ 160 }
+    ensures { text.new.bytes ≡ text.old.bytes ++ calls_text calls.now }
 {
-    let count = plan.count as usize;
-    let mut place = at;
-    let mut k = 0usize;
-    while k < count {
-        let c = plan.calls[k];
-        place = put_call(out, place, c);
-        k = k + 1;
+    for call in calls {
+        push_call(text, call);
     }
-    place
 }
 
-fn put_at(out: &mut [u8; 160], at: usize, number: u8, operator: u8) -> usize
-    requires { at + 6 ≤ 160 }
-    ensures { Written out.old at (at_text number operator) out.new result }
+// A refusal's operator, where it names one.
+fn push_at(text: &mut ArrayString<ROOM>, refusal: Refusal)
+    requires { length text.old.bytes + 6 ≤ 160 }
+    ensures { text.new.bytes ≡ text.old.bytes ++ at_text refusal }
 {
-    if number == 2 {
-        return put(out, at, b"\n");
+    match refusal {
+        Refusal::NoRenderer(at) | Refusal::UnsetBuffer(at) => {
+            text.push_str(" at ");
+            push_digit(text, at);
+            text.push_str("\n");
+        }
+        _ => text.push_str("\n"),
     }
-    let a = put(out, at, b" at ");
-    let d = digit_of(operator);
-    put(out, a, &[d, 10])
 }
 
-fn put_refusal(out: &mut [u8; 160], number: u8, operator: u8) -> usize
-    ensures { Written out.old 0 (refusal_text number operator) out.new result }
+#[tactic(auto, unfolding(crate::specs::Text::refusal_text))]
+fn push_refusal(text: &mut ArrayString<ROOM>, refusal: Refusal)
+    requires { length text.old.bytes + 15 ≤ 160 }
+    ensures { text.new.bytes ≡ text.old.bytes ++ refusal_text refusal }
 {
-    let a = put(out, 0, b"refused ");
-    let d = digit_of(number);
-    let b = put(out, a, &[d]);
-    put_at(out, b, number, operator)
+    text.push_str("refused ");
+    push_digit(text, refusal.number());
+    push_at(text, refusal);
+}
+
+// The text for what was compiled of the bytes.
+fn push_planned(text: &mut ArrayString<ROOM>, bytes: &[u8], planned: Result<Plan, Refusal>)
+    requires { (text.old.bytes ≡ []) × IfOk planned (λ p. (length bytes.now ≤ 6) × (p.count ≤ 6)) }
+    ensures { text.new.bytes ≡ planned_text bytes.now planned }
+{
+    match planned {
+        Ok(plan) => {
+            push_row(text, bytes);
+            push_count(text, plan.count);
+            push_calls(text, &plan.calls[..plan.count as usize]);
+        }
+        Err(refusal) => push_refusal(text, refusal),
+    }
 }
 
 // The text for one raw row: the row, its number of calls and a line for each; or the line of its refusal. The answer is
 // the text's length.
-pub fn print(bytes: &[u8], out: &mut [u8; 160]) -> usize
+pub fn print(bytes: &[u8], out: &mut [u8; ROOM]) -> usize
     ensures { Written out.old 0 (plan_text bytes.now) out.new result }
 {
-    let row = algorithms::six_bytes(bytes);
-    match algorithms::compile_row(bytes.len(), row) {
-        Ok(plan) => {
-            let a = put_row(out, bytes);
-            let b = put_count(out, a, plan.count);
-            put_calls(out, b, plan)
-        }
-        Err(refusal) => put_refusal(out, refusal.number(), refusal.place()),
-    }
+    let mut text = ArrayString::<ROOM>::new();
+    let planned = algorithms::compile_row(bytes.len(), algorithms::six_bytes(bytes));
+    push_planned(&mut text, bytes, planned);
+    let n = text.len();
+    out[..n].copy_from_slice(text.as_bytes());
+    n
 }

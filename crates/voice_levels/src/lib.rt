@@ -63,6 +63,7 @@ pub struct Raised {
 }
 
 // All operators of a block: envelopes, steps with their marks, and amplitudes.
+// Stays: four arrays, each of which goes on whole to another place; one array would be taken apart for them.
 #[derive(Clone, Copy)]
 pub struct Levels {
     pub operator_envelope: [Envelope; 6],

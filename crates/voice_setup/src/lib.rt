@@ -18,6 +18,7 @@ pub struct OperatorSetup {
 }
 
 // And of all.
+// Stays: three arrays, which the voice holds; one array of OperatorSetup would be taken apart for them again.
 #[derive(Clone, Copy)]
 pub struct Setup {
     pub operator_envelope: [Envelope; 6],
