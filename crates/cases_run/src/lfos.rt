@@ -2,24 +2,17 @@
 // sample-and-hold sequence. A worker plays its own LFO for a while, and then the patch that is to be
 // identified, with the generator's number 21 (hex); the draws are printed by their bits.
 use crate::heading;
-use lfo_inner::Lfo;
+use lfo::Motion;
 use patch::ModulationParameters;
+use refusals::Refusal;
 use streams::Streams;
-
-// An LFO and the generator's number.
-#[derive(Clone, Copy)]
-struct Playing {
-    lfo: Lfo,
-    state: u32,
-}
 
 // The number that every identification starts from.
 const START: u32 = 0x21;
 
 // Set to a rate and a wave, at 48,000 Hz.
-fn ready(rate: u8, waveform: u8, state: u32) -> Playing {
-    let made = lfo::init(48000.0);
-    let fresh = made.lfo;
+fn ready(rate: u8, waveform: u8, state: u32) -> Result<Motion, Refusal> {
+    let fresh = lfo::init(48000.0)?;
     let modulations = ModulationParameters {
         delay: 0,
         rate,
@@ -29,69 +22,61 @@ fn ready(rate: u8, waveform: u8, state: u32) -> Playing {
         waveform,
         pitch_mod_sensitivity: 3,
     };
-    let set = lfo::set(fresh, modulations);
-    let started = lfo::reset(set.lfo);
-    let ours = started.lfo;
-    Playing { lfo: ours, state }
-}
-
-fn stepped(p: Playing) -> Playing {
-    let state = p.state;
-    let from = p.lfo;
-    let moved = lfo::step(from, state, 64.0);
-    let to = moved.lfo;
-    Playing {
-        lfo: to,
-        state: moved.state,
-    }
+    let set = lfo::set(fresh, modulations)?;
+    let lfo = lfo::reset(set)?;
+    Ok(Motion { lfo, state })
 }
 
 // Some blocks of 64 samples.
-fn played(p: Playing, blocks: u32) -> Playing {
-    let mut now = p;
+fn played(from: Motion, blocks: u32) -> Result<Motion, Refusal> {
+    let mut now = from;
     for _ in 0..blocks {
-        now = stepped(now);
+        now = lfo::step(now, 64.0)?;
     }
-    now
+    Ok(now)
 }
 
-// Sixteen blocks more.
-fn more(p: Playing) -> Playing {
-    played(p, 16)
-}
-
-// The draw that is held.
-fn put_draw(line: &mut [u8], at: usize, p: Playing) -> usize {
-    let a = streams::put(line, at, b" ");
-    let lfo = p.lfo;
-    streams::put_hex(line, a, numbers::f32_to_bits(lfo.value) as u64, 8)
-}
-
-// The patch that is to be identified: the fastest sample and hold, four draws.
-fn put_draws(line: &mut [u8], at: usize) -> usize {
-    let first = more(ready(99, 5, START));
-    let second = more(first);
-    let third = more(second);
-    let fourth = more(third);
-    let a = put_draw(line, at, first);
-    let b = put_draw(line, a, second);
-    let c = put_draw(line, b, third);
-    put_draw(line, c, fourth)
+// The patch that is to be identified: the fastest sample and hold, a draw each sixteen blocks.
+fn put_draws(line: &mut [u8], at: usize) -> Result<usize, Refusal> {
+    let mut now = ready(99, 5, START)?;
+    let mut end = at;
+    for _ in 0..4 {
+        now = played(now, 16)?;
+        let held = now.lfo.value;
+        end = streams::put(line, end, b" ");
+        end = streams::put_hex(line, end, numbers::f32_to_bits(held) as u64, 8);
+    }
+    Ok(end)
 }
 
 // What a worker played before, the number that its generator had then, and the draws.
+fn put_worker(
+    line: &mut [u8],
+    name: &[u8],
+    rate: u8,
+    waveform: u8,
+    blocks: u32,
+) -> Result<usize, Refusal> {
+    let before = played(ready(rate, waveform, START)?, blocks)?;
+    let a = streams::put(line, 0, name);
+    let b = streams::put_hex(line, a, before.state as u64, 8);
+    let c = streams::put(line, b, b", draws");
+    let d = put_draws(line, c)?;
+    Ok(streams::put(line, d, b"\n"))
+}
+
 fn worker(to: Streams, going: bool, name: &[u8], rate: u8, waveform: u8, blocks: u32) -> bool {
     if !going {
         return false;
     }
-    let before = played(ready(rate, waveform, START), blocks);
     let mut line = [0u8; 128];
-    let a = streams::put(&mut line, 0, name);
-    let b = streams::put_hex(&mut line, a, before.state as u64, 8);
-    let c = streams::put(&mut line, b, b", draws");
-    let d = put_draws(&mut line, c);
-    let e = streams::put(&mut line, d, b"\n");
-    streams::write(to, &line, e)
+    match put_worker(&mut line, name, rate, waveform, blocks) {
+        Ok(end) => streams::write(to, &line, end),
+        Err(refusal) => {
+            streams::tell_refusal(to, b"", name, refusal.number());
+            true
+        }
+    }
 }
 
 pub fn run(to: Streams, going: bool) -> bool {
