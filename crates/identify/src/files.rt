@@ -1,10 +1,11 @@
 // A file is read through a window, whatever its length, and cut into messages. Their lines stand in the file's order.
-ghost use Rattle.std.specs.Prelude.{◌≡◌, ◌<◌, ◌≤◌, length};
-
 use crate::messages::Found;
 use crate::{lines, messages};
+use refusals::Refusal;
 use std::io;
 use std::io::Read;
+use std::ops::ControlFlow;
+use std::ops::ControlFlow::{Break, Continue};
 use streams::{Streams, Window};
 
 // A dump of 32 patches and a byte more: with as many waiting, a dump is seen whole, and whether it is all.
@@ -12,15 +13,12 @@ const NEEDED: usize = 4105;
 
 // Whether more is to be read before the bytes that wait are looked at.
 fn is_short(w: Window) -> bool {
-    if w.ended {
-        return false;
-    }
-    w.end.wrapping_sub(w.at) < NEEDED
+    !w.ended & (w.end.wrapping_sub(w.at) < NEEDED)
 }
 
 // That a read failed.
 fn tell_unread(to: Streams, name: &[u8], error: &io::Error) {
-    if name.len() == 0 {
+    if name.is_empty() {
         streams::fail(to, b"standard input", error);
         return;
     }
@@ -57,166 +55,133 @@ pub fn begin<R: Read>(from: &mut R, to: Streams, name: &[u8], buffer: &mut [u8])
     Some(w)
 }
 
-// Whether there was more to read.
-fn read_on<R: Read>(from: &mut R) -> bool {
-    let mut rest = [0u8; 4096];
-    match streams::read_full(from, &mut rest) {
-        Ok(n) => n == 4096,
-        Err(_) => false,
-    }
-}
-
 // Reads to the end, or up to a read that fails.
 pub fn drain<R: Read>(from: &mut R) {
+    let mut rest = [0u8; 4096];
     for _ in 0..u64::MAX {
-        if !read_on(from) {
-            return;
+        match streams::read_full(from, &mut rest) {
+            Ok(4096) => {}
+            _ => return,
         }
     }
 }
 
-// A walk through a file: the window, the place in the file of the first byte that waits, whether that byte goes on
-// with a message that is no dump, how many bytes before it begin no message, whether the walk is over, and whether
-// every line was written.
+// What the bytes before a place leave open: a message that is no dump, or so many bytes that begin no message.
+#[derive(Clone, Copy)]
+enum Open {
+    Nothing,
+    Message,
+    Stray(u64),
+}
+
+// A walk through a file: the window, the place in the file of the first byte that waits, and what is open there.
 #[derive(Clone, Copy)]
 struct Walk {
     window: Window,
     place: u64,
-    inside: bool,
-    stray: u64,
-    over: bool,
-    written: bool,
+    open: Open,
 }
 
-// The walk at a later byte of the window.
-fn moved(w: Walk, to: usize, inside: bool, stray: u64) -> Walk {
-    let from = w.window;
-    let size = to.wrapping_sub(from.at);
-    let window = Window {
-        at: to,
-        end: from.end,
-        ended: from.ended,
-    };
+// The walk after a step; where it is over, whether every line was written.
+type Turn = ControlFlow<bool, Walk>;
+
+// The walk so many bytes on.
+fn moved(w: Walk, size: usize, open: Open) -> Walk {
     Walk {
-        window,
+        window: Window {
+            at: w.window.at.wrapping_add(size),
+            ..w.window
+        },
         place: w.place.wrapping_add(size as u64),
-        inside,
-        stray,
-        over: w.over,
-        written: w.written,
+        open,
     }
 }
 
-fn tell_stray(to: Streams, name: &[u8], w: Walk) {
-    lines::tell_stray(to, name, w.place.wrapping_sub(w.stray), w.stray);
+// The stray bytes before a place.
+fn tell_stray(to: Streams, name: &[u8], place: u64, count: u64) {
+    lines::tell_stray(to, name, place.wrapping_sub(count), count);
 }
 
 // The end of a file.
-fn finish(to: Streams, name: &[u8], w: Walk) -> Walk {
-    if w.stray > 0 {
-        tell_stray(to, name, w);
+fn finish(to: Streams, name: &[u8], w: Walk) -> Turn {
+    if let Open::Stray(count) = w.open {
+        tell_stray(to, name, w.place, count);
     }
-    let mut done = w;
-    done.over = true;
-    done
+    Break(true)
 }
 
-fn pass_message(bytes: &[u8], at: usize, w: Walk) -> Walk
-    requires { at ≤ length bytes.now }
-{
-    let cut = messages::message_end(bytes, at);
-    moved(w, cut.end, !cut.over, 0)
+fn pass_message(bytes: &[u8], w: Walk) -> Turn {
+    Continue(match messages::message_end(bytes) {
+        Some(end) => moved(w, end, Open::Nothing),
+        None => moved(w, bytes.len(), Open::Message),
+    })
 }
 
-fn pass_stray(to: Streams, name: &[u8], bytes: &[u8], at: usize, w: Walk) -> Walk
-    requires { at ≤ length bytes.now }
-{
-    let cut = messages::stray_end(bytes, at);
-    let size = cut.end.wrapping_sub(at);
-    let stray = w.stray.wrapping_add(size as u64);
-    let passed = moved(w, cut.end, false, stray);
-    if cut.over {
-        tell_stray(to, name, passed);
-        return moved(passed, cut.end, false, 0);
+fn pass_stray(to: Streams, name: &[u8], bytes: &[u8], before: u64, w: Walk) -> Turn {
+    let Some(end) = messages::stray_end(bytes) else {
+        let count = before.wrapping_add(bytes.len() as u64);
+        return Continue(moved(w, bytes.len(), Open::Stray(count)));
+    };
+    let passed = moved(w, end, Open::Nothing);
+    tell_stray(to, name, passed.place, before.wrapping_add(end as u64));
+    Continue(passed)
+}
+
+// The walk behind a dump, if its lines were written.
+fn behind(w: Walk, size: usize, written: bool) -> Turn {
+    if !written {
+        return Break(false);
     }
-    passed
+    Continue(moved(w, size, Open::Nothing))
 }
 
-// The walk behind a dump.
-fn behind(w: Walk, to: usize, written: bool) -> Walk {
-    let mut passed = moved(w, to, false, 0);
-    passed.written = written;
-    passed
+fn pass_bank(to: Streams, name: &[u8], bytes: &[u8], w: Walk) -> Turn {
+    let dump = messages::dump(bytes, bank::DUMP_SIZE);
+    behind(w, dump.len(), lines::print_dump(to, name, dump, w.place))
 }
 
-fn pass_bank(to: Streams, name: &[u8], bytes: &[u8], at: usize, w: Walk) -> Walk
-    requires { at ≤ length bytes.now }
-{
-    let dump = messages::dump(bytes, at, bank::DUMP_SIZE);
-    let written = lines::print_dump(to, name, dump, w.place);
-    behind(w, at.wrapping_add(dump.len()), written)
-}
-
-fn pass_single(to: Streams, name: &[u8], bytes: &[u8], at: usize, w: Walk) -> Walk
-    requires { at ≤ length bytes.now }
-{
-    let dump = messages::dump(bytes, at, single::DUMP_SIZE);
-    let written = lines::print_single(to, name, dump, w.place);
-    behind(w, at.wrapping_add(dump.len()), written)
+fn pass_single(to: Streams, name: &[u8], bytes: &[u8], w: Walk) -> Turn {
+    let dump = messages::dump(bytes, single::DUMP_SIZE);
+    behind(w, dump.len(), lines::print_single(to, name, dump, w.place))
 }
 
 // A message that is no dump has the wrong length for one.
-fn refuse_message(to: Streams, name: &[u8], at: usize, w: Walk) -> Walk {
-    lines::tell_refusal_at(to, name, 10, w.place);
-    moved(w, at.wrapping_add(1), true, 0)
+fn refuse_message(to: Streams, name: &[u8], w: Walk) -> Turn {
+    lines::tell_refusal_at(to, name, Refusal::WrongLength.number(), w.place);
+    Continue(moved(w, 1, Open::Message))
 }
 
 // What begins at the first byte that waits.
-fn pass_next(to: Streams, name: &[u8], bytes: &[u8], at: usize, w: Walk) -> Walk
-    requires { at < length bytes.now }
-{
-    match messages::beginning(bytes, at) {
-        Found::Bank => pass_bank(to, name, bytes, at, w),
-        Found::Single => pass_single(to, name, bytes, at, w),
-        Found::Message => refuse_message(to, name, at, w),
-        Found::Nothing => pass_stray(to, name, bytes, at, w),
+fn pass_next(to: Streams, name: &[u8], bytes: &[u8], w: Walk) -> Turn {
+    match messages::beginning(bytes) {
+        Found::Bank => pass_bank(to, name, bytes, w),
+        Found::Single => pass_single(to, name, bytes, w),
+        Found::Message => refuse_message(to, name, w),
+        Found::Nothing => pass_stray(to, name, bytes, 0, w),
     }
 }
 
-// One step through the bytes up to the window's end.
-fn step(to: Streams, name: &[u8], bytes: &[u8], w: Walk) -> Walk {
-    let window = w.window;
-    let at = window.at;
-    if bytes.len() <= at {
+// One step through the bytes that wait.
+fn step(to: Streams, name: &[u8], bytes: &[u8], w: Walk) -> Turn {
+    if bytes.is_empty() {
         return finish(to, name, w);
     }
-    if w.inside {
-        return pass_message(bytes, at, w);
+    match w.open {
+        Open::Message => pass_message(bytes, w),
+        Open::Stray(before) => pass_stray(to, name, bytes, before, w),
+        Open::Nothing => pass_next(to, name, bytes, w),
     }
-    if w.stray > 0 {
-        return pass_stray(to, name, bytes, at, w);
-    }
-    pass_next(to, name, bytes, at, w)
 }
 
-// A read where the window is short, or else a step.
-fn turn<R: Read>(from: &mut R, to: Streams, name: &[u8], buffer: &mut [u8], w: Walk) -> Walk {
-    let window = w.window;
-    if is_short(window) {
-        return read_more(from, to, name, buffer, w);
+// A read where the window is short, or else a step. The walk is over where a read failed.
+fn turn<R: Read>(from: &mut R, to: Streams, name: &[u8], buffer: &mut [u8], w: Walk) -> Turn {
+    if !is_short(w.window) {
+        return step(to, name, streams::waiting(buffer, w.window), w);
     }
-    let end = streams::least(window.end, buffer.len());
-    step(to, name, &buffer[..end], w)
-}
-
-// The walk after one read more. It is over where that failed.
-fn read_more<R: Read>(from: &mut R, to: Streams, name: &[u8], buffer: &mut [u8], w: Walk) -> Walk {
-    let mut later = w;
     match filled(from, to, name, buffer, w.window) {
-        Some(more) => later.window = more,
-        None => later.over = true,
+        Some(window) => Continue(Walk { window, ..w }),
+        None => Break(true),
     }
-    later
 }
 
 fn print_messages<R: Read>(
@@ -229,18 +194,15 @@ fn print_messages<R: Read>(
     let mut w = Walk {
         window,
         place: 0,
-        inside: false,
-        stray: 0,
-        over: false,
-        written: true,
+        open: Open::Nothing,
     };
     for _ in 0..u64::MAX {
-        if !w.written || w.over {
-            break;
+        match turn(from, to, name, buffer, w) {
+            Continue(next) => w = next,
+            Break(written) => return written,
         }
-        w = turn(from, to, name, buffer, w);
     }
-    w.written
+    true
 }
 
 // Whether a file of this length is one patch or one dump of either kind, or too short for all.

@@ -2,6 +2,7 @@
 ghost use Rattle.std.specs.Prelude.{◌≡◌, length};
 
 use patch::Patch;
+use refusals::Refusal;
 use streams::Streams;
 
 fn print_identifier(to: Streams, name: &[u8], head: &[u8], identifier: u64) -> bool {
@@ -12,36 +13,36 @@ fn print_identifier(to: Streams, name: &[u8], head: &[u8], identifier: u64) -> b
 
 // The line of a slot's patch. The answer says whether to go on.
 fn print_patch(to: Streams, name: &[u8], slot: usize, patch: Patch) -> bool {
-    let letters = patch.name;
-    let columns = streams::patch_columns(slot, letters);
-    let r = identity::identify(patch);
-    if r.number != 0 {
-        streams::tell_refusal(to, name, &columns, r.number);
-        return true;
+    let columns = streams::patch_columns(slot, patch.name);
+    match identity::identify(patch) {
+        Ok(identifier) => print_identifier(to, name, &columns, identifier),
+        Err(refusal) => {
+            streams::tell_refusal(to, name, &columns, refusal.number());
+            true
+        }
     }
-    print_identifier(to, name, &columns, r.identifier)
 }
 
 // The line of a packed patch.
 fn print_packed(to: Streams, name: &[u8], slot: usize, bytes: &[u8]) -> bool {
-    let patch = patch::unpack(Patch::new(), bytes).unwrap_or(Patch::new());
-    print_patch(to, name, slot, patch)
+    match patch::unpack(Patch::new(), bytes) {
+        Ok(patch) => print_patch(to, name, slot, patch),
+        Err(refused) => {
+            streams::tell_refusal(to, name, b"", refused.refusal.number());
+            true
+        }
+    }
 }
 
 fn print_bank(to: Streams, name: &[u8], dump: &[u8]) -> bool
     requires { length dump.now ≡ 4104 }
 {
-    for slot in 0..32usize {
-        if !print_packed(to, name, slot, bank::slot_part(dump, slot)) {
-            return false;
-        }
-    }
-    true
+    (0..32).all(|slot| print_packed(to, name, slot, bank::slot_part(dump, slot)))
 }
 
 // The refusal of what begins at a place of a file; standard input has no places.
 pub fn tell_refusal_at(to: Streams, name: &[u8], number: u8, place: u64) {
-    if name.len() == 0 {
+    if name.is_empty() {
         streams::tell_refusal(to, name, b"", number);
         return;
     }
@@ -85,7 +86,7 @@ pub fn print_single(to: Streams, name: &[u8], dump: &[u8], place: u64) -> bool {
 // The lines of one patch or one dump.
 pub fn print_whole(to: Streams, name: &[u8], bytes: &[u8]) -> bool {
     if bytes.len() < patch::SYX_SIZE {
-        streams::tell_refusal(to, name, b"", 1);
+        streams::tell_refusal(to, name, b"", Refusal::ShortPatch.number());
         return true;
     }
     if bytes.len() == patch::SYX_SIZE {

@@ -30,10 +30,10 @@ fn standard_input(from: &mut Stdin, to: Streams) {
 
 // The file of a name. One that is no text cannot be opened.
 fn opened<R: Files>(rt: &R, name: &[u8]) -> io::Result<R::File> {
-    match str::from_utf8(name) {
-        Ok(path) => fs::open(rt, path),
-        Err(_) => Err(io::Error::from(io::ErrorKind::InvalidFilename)),
-    }
+    let Ok(path) = str::from_utf8(name) else {
+        return Err(io::Error::from(io::ErrorKind::InvalidFilename));
+    };
+    fs::open(rt, path)
 }
 
 // The lines of a named file. The answer says whether to go on: it does not where a line could not be written.
@@ -68,10 +68,7 @@ fn each_file<R: Files + Env>(rt: &R, to: Streams) {
 // Whether the program was given a word.
 fn has_words<R: Env>(rt: &R) -> bool {
     let mut word = [0u8; 1];
-    match rt.arg(1, &mut word) {
-        Err(FillError::NotPresent) => false,
-        _ => true,
-    }
+    !matches!(rt.arg(1, &mut word), Err(FillError::NotPresent))
 }
 
 fn main(rt: HostRuntime) {
