@@ -1,12 +1,13 @@
 -- Which patches have something to play: those that 6 names neither for the voice nor for the LFO. Assumes nothing.
 use Rattle.std.proofs.Common.{◌≡◌, ℕ, zero, suc, ◌<◌, Bool, true, false, cond, ◌&&◌, T, eqb, leb, sym, refl, ap, ◌∙◌}
+use Rattle.std.proofs.Common.{Result, is_ok}
 use Rattle.std.proofs.Common.{subst, arith, leb→le, eqb-true, Ok, Err}
-use borrow.Author.Tests.{eqb-false, eq-eqb}
+use borrow.Author.Tests.{eqb-false}
 use lib.Ieee.{lt, le}
 use lib.Ieee.Fits.{and_l, and_r}
 use Rattle.numbers.specs.F32.{◌⊘◌, decimal}
 use Rattle.refusals.specs.declared.Refusal.TheVariants.{Field}
-use Rattle.refusals.specs.Answer.{refused}
+use Rattle.refusals.specs.Answer.{refused, state_after}
 use Rattle.patch.specs.declared.Patch.{Patch}
 use Rattle.patch.specs.Layout.{patch_sensitivity, lfo_sensitivity}
 use Rattle.patch.specs.Packed.{patch_fits, operators_fit, stages_fit, modulations_fit, name_fits}
@@ -24,16 +25,17 @@ use Rattle.lfo.specs.Answers as lfo
 use Rattle.lfo.specs.Calls.{Set, answer_to, Valid}
 use Rattle.lfo.proofs.Calls.{init_valid, call_keeps}
 use Rattle.voice.specs.declared.Voice.{Voice}
-use Rattle.voice.specs.Voice.{voice_with, fresh_voice, with_patch}
+use Rattle.voice.specs.Voice.{voice_with, fresh_voice}
 use Rattle.voice.specs.Answers as voice
 use Rattle.voice.proofs.Kept.{set_patch_keeps}
+use Rattle.voice.proofs.Switch.{set_patch_switch}
 use Rattle.patch_limits.specs.Ranges.{sample_rate_fits}
 use Rattle.identity.specs.Identity.{readied}
 
 -- the rows below n of the table are accepted
 unfoldable rows_accepted : ℕ → Bool
 rows_accepted zero = true
-rows_accepted (suc n) = eqb (compiled 6 six_operators n).number 0 && rows_accepted n
+rows_accepted (suc n) = is_ok (compiled 6 six_operators n) && rows_accepted n
 
 all_accepted : rows_accepted 32 ≡ true
 unfolding rows_accepted destination adding source flagged last_operator unmet ends grown reused chained origin_from
@@ -45,18 +47,22 @@ is_true : (b : Bool) → T b → b ≡ true
 is_true true t = refl
 is_true false t = absurd t
 
-row_accepted_lem : (n a : ℕ) → T (rows_accepted n) → a < n → (compiled 6 six_operators a).number ≡ 0
+row_accepted_lem : (n a : ℕ) → T (rows_accepted n) → a < n → T (is_ok (compiled 6 six_operators a))
 unfolding rows_accepted
 row_accepted_lem zero a t h = omega arith
 row_accepted_lem (suc n) a t h =
-    let head = eqb (compiled 6 six_operators n).number 0 in
-    go (eqb a n) refl (eqb-true _ 0 (is_true head (and_l head (rows_accepted n) t)))
+    let head = is_ok (compiled 6 six_operators n) in
+    go (eqb a n) refl (and_l head (rows_accepted n) t)
     (λ k. row_accepted_lem n a (and_r head (rows_accepted n) t) k)
   where
-    go : (b : Bool) → eqb a n ≡ b → (compiled 6 six_operators n).number ≡ 0
-        → (a < n → (compiled 6 six_operators a).number ≡ 0) → (compiled 6 six_operators a).number ≡ 0
-    go true e here before = ap (λ (k : ℕ). (compiled 6 six_operators k).number) (eqb-true a n e) ∙ here
+    go : (b : Bool) → eqb a n ≡ b → T (is_ok (compiled 6 six_operators n))
+        → (a < n → T (is_ok (compiled 6 six_operators a))) → T (is_ok (compiled 6 six_operators a))
+    go true e here before = subst (λ (k : ℕ). T (is_ok (compiled 6 six_operators k))) (sym (eqb-true a n e)) here
     go false e here before = let z = eqb-false a n e in before (omega arith)
+
+ok_is : {A E : Type 0} (r : Result A E) → T (is_ok r) → (x : A) × (r ≡ Ok x)
+ok_is (Ok x) t = (x, refl)
+ok_is (Err e) t = absurd t
 
 -- an accepted patch names one of 32 rows
 algorithm_of : (p : Patch) → T (patch_fits p) → p.algorithm < 32
@@ -116,9 +122,7 @@ first_valid = rw lfo_made at (init_valid (decimal 48000 0) (subst T (sym rate_fi
 module _ (p : Patch) where
   -- a voice with the patch, and its LFO
   abbrev pub voice_taken : Voice
-  voice_taken =
-      let c = compiled 6 six_operators p.algorithm in
-      with_patch first_voice true p c.row c.plan
+  voice_taken = state_after (voice.set_patch_answer first_voice p six_operators)
 
   abbrev pub lfo_taken : Lfo
   lfo_taken = adjusted first_lfo p.modulations
@@ -126,18 +130,17 @@ module _ (p : Patch) where
   pub patch_taken : patch_fits p ≡ true → voice.set_patch_answer first_voice p six_operators ≡ Ok voice_taken
   unfolding voice.set_patch_answer voice.row_compiled
   patch_taken fits =
-      let row = row_accepted_lem 32 p.algorithm (subst T (sym all_accepted) tt) (algorithm_of p (subst T (sym fits) tt))
-      in
-      rw (voice_fits, voice_six, fits, eq-eqb (compiled 6 six_operators p.algorithm).number 0 row) refl
+      let row = ok_is (compiled 6 six_operators p.algorithm)
+      (row_accepted_lem 32 p.algorithm (subst T (sym all_accepted) tt) (algorithm_of p (subst T (sym fits) tt))) in
+      rw (voice_fits, voice_six, fits, row.1) refl
 
   -- 9 accepts that voice, whose switch is off
-  pub voice_fits_lem : patch_fits p ≡ true → T (voice.state_fits voice_taken)
-  voice_fits_lem fits =
-      rw (patch_taken fits) at (set_patch_keeps first_voice (subst T (sym voice_fits) tt) p six_operators).0
+  pub voice_fits_lem : T (voice.state_fits voice_taken)
+  voice_fits_lem = (set_patch_keeps first_voice (subst T (sym voice_fits) tt) p six_operators).0
 
   pub voice_off : voice_taken.transposing ≡ false
-  unfolding with_patch fresh_voice voice_with
-  voice_off = refl
+  unfolding fresh_voice voice_with
+  voice_off = set_patch_switch first_voice p six_operators
 
   patch_refused : patch_fits p ≡ false → voice.set_patch_answer first_voice p six_operators ≡ refused Field first_voice
   unfolding voice.set_patch_answer voice.row_compiled

@@ -214,7 +214,7 @@ module _ (p : Patch) (fits : patch_fits p ≡ true) (modulated : modulations_fit
   unfolding identity_of identity_answered
   identity_goes =
       let ready = readied_is p fits modulated in
-      let v : Plain (voice_taken p) = record { fits = voice_fits_lem p fits; off = voice_off p } in
+      let v : Plain (voice_taken p) = record { fits = voice_fits_lem p; off = voice_off p } in
       let g = notes_go (record { voice = voice_taken p; lfo = restarted (lfo_taken p) }) v (ready_tame p modulated) in
       record {
         all = rw (ready_answered_lem, ready) g.all;
