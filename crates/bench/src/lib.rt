@@ -467,5 +467,5 @@ pub extern "C" fn bench_setup(bytes: &[u8], times: u32, block: &mut [f32]) -> u3
 // The identifier of a packed patch.
 #[unsafe(no_mangle)]
 pub extern "C" fn bench_identify(bytes: &[u8]) -> u64 {
-    identity::identify(read(bytes)).identifier
+    identity::identify(read(bytes)).unwrap_or(0)
 }

@@ -2,8 +2,9 @@
 // sample-and-hold sequence. A worker plays its own LFO for a while, and then the patch that is to be
 // identified, with the generator's number 21 (hex); the draws are printed by their bits.
 use crate::heading;
-use lfo_inner::Motion;
+use lfo::Motion;
 use patch::ModulationParameters;
+use refusals::Refusal;
 use std::io;
 use streams::{Line, Streams};
 
@@ -11,7 +12,7 @@ use streams::{Line, Streams};
 const START: u32 = 0x21;
 
 // Set to a rate and a wave, at 48,000 Hz.
-fn ready(rate: u8, waveform: u8, state: u32) -> Motion {
+fn ready(rate: u8, waveform: u8, state: u32) -> Result<Motion, Refusal> {
     let modulations = ModulationParameters {
         delay: 0,
         rate,
@@ -21,38 +22,42 @@ fn ready(rate: u8, waveform: u8, state: u32) -> Motion {
         waveform,
         pitch_mod_sensitivity: 3,
     };
-    let set = lfo::set(lfo::init(48000.0).lfo, modulations);
-    Motion {
-        lfo: lfo::reset(set.lfo).lfo,
+    let set = lfo::set(lfo::init(48000.0)?, modulations)?;
+    Ok(Motion {
+        lfo: lfo::reset(set)?,
         state,
-    }
-}
-
-fn stepped(p: Motion) -> Motion {
-    let moved = lfo::step(p.lfo, p.state, 64.0);
-    Motion {
-        lfo: moved.lfo,
-        state: moved.state,
-    }
+    })
 }
 
 // Some blocks of 64 samples.
-fn played(p: Motion, blocks: u32) -> Motion {
-    (0..blocks).fold(p, |now, _| stepped(now))
+fn played(from: Motion, blocks: u32) -> Result<Motion, Refusal> {
+    let mut now = from;
+    for _ in 0..blocks {
+        now = lfo::step(now, 64.0)?;
+    }
+    Ok(now)
 }
 
 // What a worker played before, the number that its generator had then, and four draws of the patch that is to be
 // identified, the fastest sample and hold, sixteen blocks apart.
-fn worker(to: Streams, name: &str, rate: u8, waveform: u8, blocks: u32) -> io::Result<()> {
-    let before = played(ready(rate, waveform, START), blocks);
+fn put_worker(line: &mut Line, name: &str, rate: u8, waveform: u8, blocks: u32) -> Result<(), Refusal> {
+    let before = played(ready(rate, waveform, START)?, blocks)?;
     let number = before.state;
-    let mut line = Line::led_by(b"");
     line.put(format_args!("{name}{number:08x}, draws"));
-    let mut now = ready(99, 5, START);
+    let mut now = ready(99, 5, START)?;
     for _ in 0..4 {
-        now = played(now, 16);
+        now = played(now, 16)?;
         let draw = numbers::f32_to_bits(now.lfo.value);
         line.put(format_args!(" {draw:08x}"));
+    }
+    Ok(())
+}
+
+// Its line; nothing that it plays is refused, and a refusal would be the line.
+fn worker(to: Streams, name: &str, rate: u8, waveform: u8, blocks: u32) -> io::Result<()> {
+    let mut line = Line::led_by(b"");
+    if let Err(refusal) = put_worker(&mut line, name, rate, waveform, blocks) {
+        line.put(refusal);
     }
     line.print(to)
 }

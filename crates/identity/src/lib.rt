@@ -1,28 +1,25 @@
 // A patch's identifier: three notes of the patch are played and every sample's bits go into one hash. Added by us: no
 // Rust file. Two patches that sound alike in these notes have one identifier, and a patch has the same one wherever and
-// whenever it is asked for: the generator's number is set at each note. A patch that a voice or an LFO refuses gets the
-// number of that refusal.
+// whenever it is asked for: the generator's number is set at each note. A patch that a voice or an LFO refuses gets
+// that refusal.
 #![tactic(auto)]
 
-ghost use Rattle.std.specs.Prelude.{◌≡◌, ◌*◌, ◌%◌, ◌^◌, if◌then◌else◌, nat_eq};
-ghost use Rattle.refusals.specs.Answer.{number_told, state_after};
-ghost use Rattle.voice_render.specs.Answers.{voice_rendered};
+ghost use Rattle.std.specs.Prelude.{◌≡◌, take};
 ghost use Rattle.identity.specs.Hash.{hashed_byte, hashed_word, hashed_samples};
-ghost use Rattle.identity.specs.Identity.{readied, parameters_of, set_up_for, block_played, blocks_played, note_played};
-ghost use Rattle.identity.specs.Identity.{notes_played, identity_of};
+ghost use Rattle.identity.specs.Identity.{readied, built_in, parameters_of, set_up_for, block_played, blocks_played};
+ghost use Rattle.identity.specs.Identity.{note_played, notes_played, identity_of};
 
-use lfo_inner::Lfo;
+use lfo::{Lfo, Motion};
 use patch::Patch;
-use refusals::Refused;
+use refusals::Refusal;
 use voice::Voice;
-use voice_render::{Rendered, VoiceParameters};
+use voice_render::VoiceParameters;
 
 const HASH_BASIS: u64 = 0xcbf2_9ce4_8422_2325;
 
-// What each note starts from, and the number of what was refused on the way.
+// What each note starts from.
 #[derive(Clone, Copy)]
 pub struct Ready {
-    pub number: u8,
     pub voice: Voice,
     pub lfo: Lfo,
 }
@@ -31,112 +28,71 @@ pub struct Ready {
 #[derive(Clone, Copy)]
 pub struct Playing {
     pub voice: Voice,
-    pub lfo: Lfo,
-    pub random: u32,
+    pub motion: Motion,
     pub hash: u64,
 }
 
-// A patch's identifier, or the number of its refusal and 0.
-#[derive(Clone, Copy)]
-pub struct Identified {
-    pub number: u8,
-    pub identifier: u64,
+// The tables that notes are played with: the LFO reads the sine's, the voice its pairs and the pitch ratios.
+#[derive(Drop)]
+pub struct Tables {
+    pub lut: [f32; 641],
+    pub pairs: [f32; 1024],
+    pub high: [f32; 256],
+    pub low: [f32; 256],
 }
 
-// Times 1b3 + 2^40 at 64 bits: what passes 2^64 is left out of each product before it is made.
-fn times_prime(h: u64) -> u64
-    ensures { result ≡ h * 0x100000001b3 % 2 ^ 64 }
-{
-    let low = h % 0x1_0000_0000 * 0x1b3;
-    let high = h / 0x1_0000_0000 * 0x1b3 % 0x1_0000_0000 * 0x1_0000_0000;
-    let top = h % 0x100_0000 * 0x100_0000_0000;
-    std::num::wrapping_add_u64(std::num::wrapping_add_u64(low, high), top)
+impl Tables {
+    fn built_in() -> Tables
+        ensures { result ≡ built_in }
+    {
+        Tables {
+            lut: sine::lut_sine(),
+            pairs: sine::sine_pairs(),
+            high: units::lut_pitch_ratio_high(),
+            low: units::lut_pitch_ratio_low(),
+        }
+    }
 }
 
-fn hash_byte(h: u64, b: u32) -> u64
+#[tactic(auto, unfolding(crate::specs::Hash::hashed_byte))]
+fn hash_byte(h: u64, b: u8) -> u64
     ensures { result ≡ hashed_byte h b }
 {
-    times_prime(h ^ b as u64)
+    (h ^ b as u64).wrapping_mul(0x100_0000_01b3)
 }
 
+#[tactic(auto, unfolding(crate::specs::Hash::hashed_word))]
 fn hash_word(h: u64, w: u32) -> u64
     ensures { result ≡ hashed_word h w }
 {
-    let h0 = hash_byte(h, w % 256);
-    let h1 = hash_byte(h0, w / 256 % 256);
-    let h2 = hash_byte(h1, w / 65536 % 256);
-    hash_byte(h2, w / 16777216 % 256)
+    w.to_le_bytes().iter().fold(h, |h, b| hash_byte(h, *b))
+}
+
+#[tactic(auto, unfolding(crate::specs::Hash::hashed_samples))]
+fn hash_samples(h: u64, samples: &[f32]) -> u64
+    ensures { result ≡ hashed_samples h samples.now }
+{
+    samples
+        .iter()
+        .fold(h, |h, x| hash_word(h, numbers::f32_to_bits(*x)))
 }
 
 // The output is the block's first quarter.
-fn hash_output(block: &[f32; 256], hash: u64) -> u64
-    ensures { result ≡ hashed_samples block.now 64 hash }
+fn hash_output(h: u64, block: &[f32; 256]) -> u64
+    ensures { result ≡ hashed_samples h (take 64 block.now) }
 {
-    let mut h = hash;
-    let mut i = 0usize;
-    while i < 64 {
-        h = hash_word(h, numbers::f32_to_bits(block[i]));
-        i += 1;
-    }
-    h
+    hash_samples(h, &block[..64])
 }
 
-// The first of two numbers that is not 0.
-fn first_number(a: u8, b: u8) -> u8
-    ensures { result ≡ (if nat_eq a 0 then b else a) }
-{
-    if a == 0 { b } else { a }
-}
-
-// The voice that an answer leaves.
-fn voice_after(done: Result<Voice, Refused<Voice>>) -> Voice
-    ensures { result ≡ state_after done }
-{
-    match done {
-        Ok(v) => v,
-        Err(e) => e.state,
-    }
-}
-
-// The number of an answer: 0 for one that is no refusal.
-fn number_of(done: Result<Voice, Refused<Voice>>) -> u8
-    ensures { result ≡ number_told done }
-{
-    match done {
-        Ok(_) => 0,
-        Err(e) => e.refusal.number(),
-    }
-}
-
-// The voice that a block leaves.
-fn voice_rendered(done: Result<Rendered, Refused<Voice>>) -> Voice
-    ensures { result ≡ voice_rendered done }
-{
-    match done {
-        Ok(r) => r.voice,
-        Err(e) => e.state,
-    }
-}
-
-fn prepare(patch: Patch) -> Ready
+fn prepare(patch: Patch) -> Result<Ready, Refusal>
     ensures { result ≡ readied patch }
 {
-    let table = algorithms_opcodes::opcodes_6_32();
-    let fresh = voice_after(voice::init(6, 48000.0));
-    let loaded = voice::set_patch(fresh, patch, &table);
-    let started = lfo::init(48000.0);
-    let at_rest = started.lfo;
-    let modulations = patch.modulations;
-    let set = lfo::set(at_rest, modulations);
-    let adjusted = set.lfo;
-    let restarted = lfo::reset(adjusted);
-    let voice = voice_after(loaded);
-    let lfo = restarted.lfo;
-    Ready {
-        number: first_number(number_of(loaded), set.number),
-        voice,
-        lfo,
-    }
+    let made = voice::init(6, 48000.0)?;
+    let voice = voice::set_patch(made, patch, &algorithms_opcodes::opcodes_6_32())?;
+    let started = lfo::init(48000.0)?;
+    let set = lfo::set(started, patch.modulations)?;
+    let lfo = lfo::reset(set)?;
+    Ok(Ready { voice, lfo })
 }
 
 fn parameters(note: f32, gate: bool, pitch_mod: f32, amp_mod: f32) -> VoiceParameters
@@ -154,131 +110,94 @@ fn parameters(note: f32, gate: bool, pitch_mod: f32, amp_mod: f32) -> VoiceParam
     }
 }
 
-// One block: the LFO reads the sine's table, the voice its pairs. The scratch quarters are cleared with the output:
-// nothing that is heard depends on them.
-fn play_block(
-    s: Playing,
-    note: f32,
-    gate: bool,
-    lut: &[f32; 641],
-    pairs: &[f32; 1024],
-    high: &[f32; 256],
-    low: &[f32; 256],
-) -> Playing
-    ensures { result
-        ≡ block_played lut.now pairs.now high.now low.now note gate s }
+// One block. The scratch quarters are cleared with the output: nothing that is heard depends on them.
+fn play_block(tables: &Tables, note: f32, gate: bool, s: Playing) -> Result<Playing, Refusal>
+    ensures { result ≡ block_played tables.now note gate s }
 {
-    let before = s.lfo;
-    let moved = lfo::step_with(lut, before, s.random, 64.0);
-    let lfo = moved.lfo;
-    let pitch = lfo::pitch_mod(lfo);
-    let amp = lfo::amp_mod(lfo);
-    let p = parameters(note, gate, pitch.value, amp.value);
-    let v = s.voice;
+    let motion = lfo::step_with(&tables.lut, s.motion, 64.0)?;
+    let pitch_mod = lfo::pitch_mod(motion.lfo)?;
+    let amp_mod = lfo::amp_mod(motion.lfo)?;
+    let p = parameters(note, gate, pitch_mod, amp_mod);
     let mut block = [0.0f32; 256];
-    let rendered = voice_render::render_with(pairs, high, low, v, p, &mut block);
-    let hash = hash_output(&block, s.hash);
-    let voice = voice_rendered(rendered);
-    Playing {
-        voice,
-        lfo,
-        random: moved.state,
-        hash,
-    }
+    let rendered = voice_render::render_with(
+        &tables.pairs,
+        &tables.high,
+        &tables.low,
+        s.voice,
+        p,
+        &mut block,
+    )?;
+    Ok(Playing {
+        voice: rendered.voice,
+        motion,
+        hash: hash_output(s.hash, &block),
+    })
 }
 
 fn play_blocks(
-    lut: &[f32; 641],
-    pairs: &[f32; 1024],
-    high: &[f32; 256],
-    low: &[f32; 256],
+    tables: &Tables,
     note: f32,
     gate: bool,
     n: u32,
-    before: Playing,
-) -> Playing
-    ensures { result
-        ≡ blocks_played lut.now pairs.now high.now low.now
-        note gate n before }
+    s: Playing,
+) -> Result<Playing, Refusal>
+    ensures { result ≡ blocks_played tables.now note gate n s }
 {
-    let mut s = before;
-    let mut i = 0u32;
-    while i < n {
-        s = play_block(s, note, gate, lut, pairs, high, low);
-        i += 1;
+    let mut now = s;
+    for _ in 0..n {
+        now = play_block(tables, note, gate, now)?;
     }
-    s
+    Ok(now)
 }
 
 // The voice after the blank block that sets it up.
-fn set_up(pairs: &[f32; 1024], high: &[f32; 256], low: &[f32; 256], v: Voice, note: f32) -> Voice
-    ensures { result ≡ set_up_for pairs.now high.now low.now v note }
+fn set_up(tables: &Tables, v: Voice, note: f32) -> Result<Voice, Refusal>
+    ensures { result ≡ set_up_for tables.now v note }
 {
     let p = parameters(note, false, 0.0, 0.0);
     let mut block = [0.0f32; 256];
-    let rendered = voice_render::render_with(pairs, high, low, v, p, &mut block);
-    voice_rendered(rendered)
+    let rendered = voice_render::render_with(
+        &tables.pairs,
+        &tables.high,
+        &tables.low,
+        v,
+        p,
+        &mut block,
+    )?;
+    Ok(rendered.voice)
 }
 
 // A note from the beginning, and the hash after it.
-fn play_note(
-    lut: &[f32; 641],
-    pairs: &[f32; 1024],
-    high: &[f32; 256],
-    low: &[f32; 256],
-    r: Ready,
-    note: f32,
-    hash: u64,
-) -> u64
-    ensures { result
-        ≡ note_played lut.now pairs.now high.now low.now r note hash }
+fn play_note(tables: &Tables, r: Ready, note: f32, hash: u64) -> Result<u64, Refusal>
+    ensures { result ≡ note_played tables.now r note hash }
 {
-    let v = r.voice;
-    let lfo = r.lfo;
-    let voice = set_up(pairs, high, low, v, note);
+    let voice = set_up(tables, r.voice, note)?;
+    let motion = Motion {
+        lfo: r.lfo,
+        state: 0x21,
+    };
     let s = Playing {
         voice,
-        lfo,
-        random: 0x21,
+        motion,
         hash,
     };
-    let held = play_blocks(lut, pairs, high, low, note, true, 128, s);
-    let released = play_blocks(lut, pairs, high, low, note, false, 64, held);
-    released.hash
+    let held = play_blocks(tables, note, true, 128, s)?;
+    let released = play_blocks(tables, note, false, 64, held)?;
+    Ok(released.hash)
 }
 
-fn play_notes(
-    lut: &[f32; 641],
-    pairs: &[f32; 1024],
-    high: &[f32; 256],
-    low: &[f32; 256],
-    r: Ready,
-) -> u64
-    ensures { result
-        ≡ notes_played lut.now pairs.now high.now low.now r }
+fn play_notes(tables: &Tables, r: Ready) -> Result<u64, Refusal>
+    ensures { result ≡ notes_played tables.now r }
 {
-    let h36 = play_note(lut, pairs, high, low, r, 36.0, HASH_BASIS);
-    let h60 = play_note(lut, pairs, high, low, r, 60.0, h36);
-    play_note(lut, pairs, high, low, r, 84.0, h60)
+    let h36 = play_note(tables, r, 36.0, HASH_BASIS)?;
+    let h60 = play_note(tables, r, 60.0, h36)?;
+    play_note(tables, r, 84.0, h60)
 }
 
-// A patch's identifier, or the number of its refusal.
-pub fn identify(patch: Patch) -> Identified
+// A patch's identifier.
+pub fn identify(patch: Patch) -> Result<u64, Refusal>
     ensures { result ≡ identity_of patch }
 {
-    let r = prepare(patch);
-    if r.number != 0 {
-        return Identified {
-            number: r.number,
-            identifier: 0,
-        };
-    }
-    let lut = sine::lut_sine();
-    let pairs = sine::sine_pairs();
-    let high = units::lut_pitch_ratio_high();
-    let low = units::lut_pitch_ratio_low();
-    Identified {
-        number: 0,
-        identifier: play_notes(&lut, &pairs, &high, &low, r),
-    }
+    let ready = prepare(patch)?;
+    play_notes(&Tables::built_in(), ready)
 }

@@ -4,8 +4,8 @@
 #![tactic(auto)]
 
 use judge_wire::{Answer, Fields};
-use lfo::{Moved, Prepared, Read};
-use lfo_inner::{Lfo, Motion, Waveform};
+use lfo::{Lfo, Motion, Waveform};
+use refusals::{Refusal, Refused};
 
 // The length of a call of the entry; 0 for no entry of this crate.
 pub fn length(entry: u8) -> usize {
@@ -20,65 +20,45 @@ pub fn length(entry: u8) -> usize {
 
 // Writes what the call answers.
 pub fn answer(entry: u8, fields: &mut Fields<'_>, kept: &mut Motion, out: &mut Answer<'_>) {
+    let lut = sine::lut_sine();
     match entry {
         0x60 => {
             kept.lfo = read_lfo(fields);
             kept.state = fields.word();
             put_motion(out, kept);
         }
-        0x61..=0x63 => prepare(entry, fields, kept, out),
-        0x64 | 0x65 | 0x6a | 0x6b => step(entry, fields.float(), kept, out),
-        _ => put_read(out, read(entry, kept.lfo)),
+        0x61 => keep_lfo(lfo::init(fields.float()), kept, out),
+        0x62 => {
+            let modulations = judge_patches::read_modulations(fields);
+            keep_lfo(lfo::set(kept.lfo, modulations), kept, out);
+        }
+        0x63 => keep_lfo(lfo::reset(kept.lfo), kept, out),
+        0x64 => keep(lfo::step(*kept, fields.float()), kept, out),
+        0x65 => keep(lfo::scrub(*kept, fields.float()), kept, out),
+        0x66 => put_read(out, lfo::value(kept.lfo)),
+        0x67 => put_read(out, lfo::delay_ramp(kept.lfo)),
+        0x68 => put_read(out, lfo::pitch_mod(kept.lfo)),
+        0x69 => put_read(out, lfo::amp_mod(kept.lfo)),
+        0x6a => keep(lfo::step_with(&lut, *kept, fields.float()), kept, out),
+        0x6b => keep(lfo::scrub_with(&lut, *kept, fields.float()), kept, out),
+        _ => put_read(out, lfo::value_with(&lut, kept.lfo)),
     }
 }
 
-fn prepare(entry: u8, fields: &mut Fields<'_>, kept: &mut Motion, out: &mut Answer<'_>) {
-    let done = prepared(entry, fields, kept.lfo);
-    kept.lfo = done.lfo;
-    out.byte(done.number);
+// An LFO that was made, set or reset: the generator's number stays.
+fn keep_lfo(done: Result<Lfo, Refused<Lfo>>, kept: &mut Motion, out: &mut Answer<'_>) {
+    kept.lfo = out.told(done);
     put_motion(out, kept);
 }
 
-fn prepared(entry: u8, fields: &mut Fields<'_>, lfo: Lfo) -> Prepared {
-    match entry {
-        0x61 => lfo::init(fields.float()),
-        0x62 => lfo::set(lfo, judge_patches::read_modulations(fields)),
-        _ => lfo::reset(lfo),
-    }
-}
-
-fn step(entry: u8, x: f32, kept: &mut Motion, out: &mut Answer<'_>) {
-    let done = moved(entry, kept.lfo, kept.state, x);
-    *kept = Motion {
-        lfo: done.lfo,
-        state: done.state,
-    };
-    out.byte(done.number);
+fn keep(done: Result<Motion, Refused<Motion>>, kept: &mut Motion, out: &mut Answer<'_>) {
+    *kept = out.told(done);
     put_motion(out, kept);
 }
 
-fn moved(entry: u8, lfo: Lfo, number: u32, x: f32) -> Moved {
-    match entry {
-        0x64 => lfo::step(lfo, number, x),
-        0x65 => lfo::scrub(lfo, number, x),
-        0x6a => lfo::step_with(&sine::lut_sine(), lfo, number, x),
-        _ => lfo::scrub_with(&sine::lut_sine(), lfo, number, x),
-    }
-}
-
-fn read(entry: u8, lfo: Lfo) -> Read {
-    match entry {
-        0x66 => lfo::value(lfo),
-        0x67 => lfo::delay_ramp(lfo),
-        0x68 => lfo::pitch_mod(lfo),
-        0x69 => lfo::amp_mod(lfo),
-        _ => lfo::value_with(&sine::lut_sine(), lfo),
-    }
-}
-
-fn put_read(out: &mut Answer<'_>, done: Read) {
-    out.byte(done.number);
-    out.float(done.value);
+fn put_read(out: &mut Answer<'_>, done: Result<f32, Refusal>) {
+    let value = out.value(done, 0.0);
+    out.float(value);
 }
 
 pub fn read_lfo(fields: &mut Fields<'_>) -> Lfo {
@@ -92,20 +72,9 @@ pub fn read_lfo(fields: &mut Fields<'_>) -> Lfo {
         one_hz: fields.float(),
         amp_mod_depth: fields.float(),
         pitch_mod_depth: fields.float(),
-        waveform: lfo_inner::waveform_from(fields.byte()),
+        waveform: Waveform::from(fields.byte()),
         reset_phase: fields.flag(),
         phase_integral: numbers::u32_as_i32(fields.word()),
-    }
-}
-
-fn number_of(w: Waveform) -> u8 {
-    match w {
-        Waveform::Triangle => 0,
-        Waveform::RampDown => 1,
-        Waveform::RampUp => 2,
-        Waveform::Square => 3,
-        Waveform::Sine => 4,
-        Waveform::SAndH => 5,
     }
 }
 
@@ -119,7 +88,7 @@ fn put_lfo(out: &mut Answer<'_>, x: &Lfo) {
     out.floats(&x.delay_increment);
     out.floats(&[x.value, x.random_value, x.one_hz]);
     out.floats(&[x.amp_mod_depth, x.pitch_mod_depth]);
-    out.byte(number_of(x.waveform));
+    out.byte(x.waveform as u8);
     out.flag(x.reset_phase);
     out.word(numbers::i32_as_u32(x.phase_integral));
 }

@@ -23,9 +23,11 @@ use Rattle.lfo_inner.specs.declared.Lfo.{Lfo}
 use Rattle.lfo_inner.specs.declared.Motion.{Motion}
 use Rattle.lfo_inner.specs.Lfo.{moved_to, valued, adjusted, restarted, wrapped, stepped, scrubbed, settled}
 use Rattle.patch_limits.specs.Ranges.{sample_rate_fits}
-use Rattle.lfo.specs.Answers.{from_zero, state_fits, step_fits, scrub_fits, moved, not_moved, move_answer, step_answer}
-use Rattle.lfo.specs.Answers.{scrub_answer}
-use Rattle.lfo.specs.Calls.{one_hz_fits}
+use Rattle.std.specs.Prelude.{Ok}
+use Rattle.refusals.specs.declared.Refusal.TheVariants.{Parameter}
+use Rattle.refusals.specs.Answer.{refused, state_after}
+use Rattle.lfo.specs.Answers.{from_zero, state_fits, step_fits, scrub_fits, step_answer, scrub_answer}
+use Rattle.lfo.specs.Calls.{beside, one_hz_fits}
 use Rattle.lfo.proofs.Phases.{FromZero, plus, is_from_zero, under_from_zero, from_zero_le, from_zero_finite, Part}
 use Rattle.lfo.proofs.Phases.{is_part, part_from_zero, part_below_one, parts_add, sum_wraps, product_at_least}
 use Rattle.lfo.proofs.Phases.{below_power, when_finite, past_whole_lem}
@@ -117,20 +119,20 @@ module _ (lfo : Lfo) (t : T (state_fits lfo)) where
 
     -- the whole answers, the refusal 7 included
     answered : (lut : List Float) (m : Motion) (b : Bool) → (T b → T (state_fits m.lfo))
-        → T (state_fits (cond b (moved (settled lut m)) (not_moved 7 lfo state)).lfo)
+        → T (state_fits (state_after (cond b (Ok (settled lut m)) (refused Parameter (beside lfo state)))).lfo)
     answered lut m true k = settled_accepted lut m (k tt)
     answered lut m false k = t
 
     pub step_keeps_accepted : (lut : List Float) (scale : Float) → T (fits binary32 lfo.phase)
-        → T (state_fits (step_answer lut lfo state scale).lfo)
-    unfolding step_answer move_answer
+        → T (state_fits (state_after (step_answer lut (beside lfo state) scale)).lfo)
+    unfolding step_answer
     step_keeps_accepted lut scale f =
         rw (is_true (state_fits lfo) t)
         (answered lut (stepped lfo state scale) (step_fits lfo scale) (step_leaves_accepted scale f))
 
     pub scrub_keeps_accepted : (lut : List Float) (sample : Float)
-        → T (state_fits (scrub_answer lut lfo state sample).lfo)
-    unfolding scrub_answer move_answer
+        → T (state_fits (state_after (scrub_answer lut (beside lfo state) sample)).lfo)
+    unfolding scrub_answer
     scrub_keeps_accepted lut sample =
         rw (is_true (state_fits lfo) t)
         (answered lut (scrubbed lfo state sample) (scrub_fits lfo sample) (scrub_leaves_accepted sample))

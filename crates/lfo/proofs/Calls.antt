@@ -16,19 +16,22 @@ use Rattle.lfo_inner.specs.declared.Lfo.{Lfo}
 use Rattle.lfo_inner.specs.declared.Motion.{Motion}
 use Rattle.lfo_inner.specs.Lfo.{fresh_lfo, adjusted, moved_to, valued, restarted, stepped, scrubbed, settled}
 use Rattle.patch_limits.specs.Ranges.{sample_rate_fits}
-use Rattle.lfo.specs.declared.Prepared.{Prepared}
-use Rattle.lfo.specs.Answers.{from_zero, state_fits, step_fits, scrub_fits, prepared, moved, not_moved, no_lfo}
-use Rattle.lfo.specs.Answers.{init_answer, set_answer, reset_answer, move_answer, step_answer, scrub_answer}
+use Rattle.std.specs.Prelude.{Result, Ok}
+use Rattle.refusals.specs.declared.Refusal.TheVariants.{SampleRate, Field, Parameter}
+use Rattle.refusals.specs.declared.Refused.{Refused}
+use Rattle.refusals.specs.Answer.{refused, number_given, number_told, state_after}
+use Rattle.lfo.specs.Answers.{from_zero, state_fits, step_fits, scrub_fits, no_lfo}
+use Rattle.lfo.specs.Answers.{init_answer, set_answer, reset_answer, step_answer, scrub_answer}
 use Rattle.lfo.specs.Answers.{read_answer, value_answer, delay_ramp_answer, pitch_mod_answer, amp_mod_answer}
 use Rattle.lfo.specs.Calls.{Call, Set, Reset, Step, Scrub, Value, DelayRamp, PitchMod, AmpMod}
-use Rattle.lfo.specs.Calls.{number_of, lfo_after, answer_to, refusal_of, Valid}
+use Rattle.lfo.specs.Calls.{number_of, lfo_after, beside, answer_to, refusal_of, Valid}
 use Rattle.lfo.proofs.Fields.{rate_fits_lem}
 use Rattle.lfo.proofs.Accepted.{step_leaves_accepted, scrub_leaves_accepted, reset_leaves_accepted, set_leaves_accepted}
 use Rattle.lfo.proofs.Accepted.{step_phase_fits, scrub_phase_fits, reset_phase_fits, frequency_product, init_one_hz}
 
 -- ---- each entry
 
-pub init_valid : (rate : Float) → T (sample_rate_fits rate) → Valid (init_answer rate).lfo
+pub init_valid : (rate : Float) → T (sample_rate_fits rate) → Valid (state_after (init_answer rate))
 unfolding init_answer fresh_lfo state_fits from_zero decimal le lt fits
 init_valid rate t =
     rw (is_true (sample_rate_fits rate) t) (record { accepted = tt; phase_fits = tt; rate_fits = init_one_hz rate t })
@@ -39,12 +42,12 @@ Kept lfo number = Valid lfo × T (not (eqb number 9))
 
 -- a start that is not refused leaves such an LFO
 pub init_keeps : (rate : Float)
-    → T (not (eqb (init_answer rate).number 9)) × ((init_answer rate).number ≡ 0 → Valid (init_answer rate).lfo)
+    → T (not (eqb (number_told (init_answer rate)) 9)) × ((number_told (init_answer rate)) ≡ 0 → Valid (state_after (init_answer rate)))
 unfolding init_answer
 init_keeps rate = go (sample_rate_fits rate) refl
   where
     go : (b : Bool) → sample_rate_fits rate ≡ b
-        → T (not (eqb (init_answer rate).number 9)) × ((init_answer rate).number ≡ 0 → Valid (init_answer rate).lfo)
+        → T (not (eqb (number_told (init_answer rate)) 9)) × ((number_told (init_answer rate)) ≡ 0 → Valid (state_after (init_answer rate)))
     go true e = (rw e tt, λ z. init_valid rate (subst T (sym e) tt))
     go false e = (rw e tt, λ z. absurd (let y = rw e at z in omega arith))
 
@@ -58,13 +61,13 @@ module _ (lfo : Lfo) (s : Valid lfo) where
     rate_fits = s.rate_fits;
   }
 
-  set_keeps : (m : ModulationParameters) → Kept (set_answer lfo m).lfo (set_answer lfo m).number
+  set_keeps : (m : ModulationParameters) → Kept (state_after (set_answer lfo m)) (number_told (set_answer lfo m))
   unfolding set_answer
   set_keeps m = rw (is_true (state_fits lfo) s.accepted) (go (modulations_fit m lfo_sensitivity) refl)
     where
       go : (b : Bool) → modulations_fit m lfo_sensitivity ≡ b
-          → Kept (cond b (prepared 0 (adjusted lfo m)) (prepared 6 lfo)).lfo
-          (cond b (prepared 0 (adjusted lfo m)) (prepared 6 lfo)).number
+          → let answer = cond b (Ok (adjusted lfo m)) (refused Field lfo) in
+          Kept (state_after answer) (number_told answer)
       go true e = (adjusted_valid m e, tt)
       go false e = (s, tt)
 
@@ -76,18 +79,17 @@ module _ (lfo : Lfo) (s : Valid lfo) where
     rate_fits = s.rate_fits;
   }
 
-  reset_keeps : Kept (reset_answer lfo).lfo (reset_answer lfo).number
+  reset_keeps : Kept (state_after (reset_answer lfo)) (number_told (reset_answer lfo))
   unfolding reset_answer
   reset_keeps = rw (is_true (state_fits lfo) s.accepted) (restarted_valid, tt)
 
-  read_number_lem : (value : Float) → T (not (eqb (read_answer lfo value).number 9))
-  unfolding read_answer
+  read_number_lem : (value : Float) → T (not (eqb (number_given (read_answer lfo value)) 9))
   read_number_lem value = rw (is_true (state_fits lfo) s.accepted) tt
 
   -- a motion that leaves a valid LFO, with its value stored, or the refusal 7
   moved_keeps : (lut : List Float) (state : ℕ) (m : Motion) (b : Bool) → (T b → Valid m.lfo)
-      → let answer = cond b (moved (settled lut m)) (not_moved 7 lfo state) in
-      Kept answer.lfo answer.number
+      → let answer = cond b (Ok (settled lut m)) (refused Parameter (beside lfo state)) in
+      Kept (state_after answer).lfo (number_told answer)
   unfolding settled valued state_fits
   moved_keeps lut state m true f =
       let r = f tt in
@@ -102,8 +104,9 @@ module _ (lfo : Lfo) (s : Valid lfo) where
       rate_fits = unfold stepped moved_to in s.rate_fits;
     }
 
-    step_keeps : (scale : Float) → Kept (step_answer lut lfo state scale).lfo (step_answer lut lfo state scale).number
-    unfolding step_answer move_answer
+    step_keeps : (scale : Float) → let answer = step_answer lut (beside lfo state) scale in
+        Kept (state_after answer).lfo (number_told answer)
+    unfolding step_answer
     step_keeps scale =
         rw (is_true (state_fits lfo) s.accepted)
         (moved_keeps lut state (stepped lfo state scale) (step_fits lfo scale) (stepped_valid scale))
@@ -116,8 +119,9 @@ module _ (lfo : Lfo) (s : Valid lfo) where
     }
 
     scrub_keeps : (sample : Float)
-        → Kept (scrub_answer lut lfo state sample).lfo (scrub_answer lut lfo state sample).number
-    unfolding scrub_answer move_answer
+        → let answer = scrub_answer lut (beside lfo state) sample in
+        Kept (state_after answer).lfo (number_told answer)
+    unfolding scrub_answer
     scrub_keeps sample =
         rw (is_true (state_fits lfo) s.accepted)
         (moved_keeps lut state (scrubbed lfo state sample) (scrub_fits lfo sample) (scrubbed_valid sample))
@@ -142,21 +146,21 @@ unfolding no_lfo moved_to fresh_lfo state_fits decimal le lt
 no_lfo_refused = refl
 
 -- as a refused start hands it out
-pub refused_init : (rate : Float) → ((init_answer rate).number ≡ 0 → ⊥) → (init_answer rate).lfo ≡ no_lfo
+pub refused_init : (rate : Float) → ((number_told (init_answer rate)) ≡ 0 → ⊥) → (state_after (init_answer rate)) ≡ no_lfo
 unfolding init_answer
 refused_init rate = go (sample_rate_fits rate)
   where
-    answer : Bool → Prepared
-    answer b = cond b (prepared 0 (fresh_lfo (decimal 1 0 ⊘ rate) (decimal 1 1))) (prepared 5 no_lfo)
+    answer : Bool → Result Lfo (Refused Lfo)
+    answer b = cond b (Ok (fresh_lfo (decimal 1 0 ⊘ rate) (decimal 1 1))) (refused SampleRate no_lfo)
 
-    go : (b : Bool) → ((answer b).number ≡ 0 → ⊥) → (answer b).lfo ≡ no_lfo
+    go : (b : Bool) → (number_told (answer b) ≡ 0 → ⊥) → state_after (answer b) ≡ no_lfo
     go true n = absurd (n refl)
     go false n = refl
 
 -- every call is then refused with 9
 pub call_refused : (lfo : Lfo) → state_fits lfo ≡ false → (call : Call) → answer_to call lfo ≡ refusal_of call lfo
-unfolding answer_to refusal_of set_answer reset_answer step_answer scrub_answer move_answer
-    value_answer delay_ramp_answer pitch_mod_answer amp_mod_answer read_answer
+unfolding answer_to refusal_of set_answer reset_answer step_answer scrub_answer
+    value_answer delay_ramp_answer pitch_mod_answer amp_mod_answer
 call_refused lfo e (Set m) = rw e refl
 call_refused lfo e Reset = rw e refl
 call_refused lfo e (Step lut state scale) = rw e refl

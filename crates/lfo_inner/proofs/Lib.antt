@@ -1,4 +1,3 @@
 -- the laws of the definitions
-pub mod Waves
 pub mod Scrubs
 pub mod Tests

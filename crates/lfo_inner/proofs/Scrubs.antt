@@ -15,13 +15,12 @@ use Rattle.lfo_inner.specs.Lfo.{scrubbed}
 abbrev pub whole_stored : Lfo → ℤ → Lfo
 whole_stored lfo whole = rebuilt lfo lfo.phase lfo.delay_phase lfo.value lfo.random_value whole
 
--- the whole part n stands at three places, each read back from its bits
-pub scrubbed_from : (lfo : Lfo) (state : ℕ) (sample : Float) {n u v w k : ℤ} {z t : Float} {b : Bool} {d : Drawn}
-    {l : Lfo}
-    → n ≡ to_signed 31 (sample ⊗ lfo.frequency) → u ≡ n → v ≡ n → k ≡ n → w ≡ lfo.phase_integral → z
-    ≡ of_int binary32 u → b ≡ whole_changed v w
+-- the whole part n stands at two places, each read back from its bits
+pub scrubbed_from : (lfo : Lfo) (state : ℕ) (sample : Float) {n u k : ℤ} {z t : Float} {b : Bool} {d : Drawn} {l : Lfo}
+    → n ≡ to_signed 31 (sample ⊗ lfo.frequency) → u ≡ n → k ≡ n → z ≡ of_int binary32 u
+    → b ≡ whole_changed n lfo.phase_integral
     → d ≡ drawn_if b lfo.random_value state → t ≡ delay_scrubbed (first_of lfo) (second_of lfo) sample
     → l ≡ moved_to lfo (sample ⊗ lfo.frequency ⊖ z) d.value t lfo.phase_integral
     → ◌≡◌ {A = Motion} (record { lfo = whole_stored l k; state = d.state }) (scrubbed lfo state sample)
 unfolding scrubbed moved_to
-scrubbed_from lfo state sample en eu ev ek ew ez eb ed et el = simp (el, ed, eb, et, ez, eu, ev, ek, ew, en)
+scrubbed_from lfo state sample en eu ek ez eb ed et el = simp (el, ed, eb, et, ez, eu, ek, en)

@@ -1,5 +1,4 @@
--- The LFO, after lfo.rs and in its order: one rounding per written operation, in the Rust's order. `is_sine` says how
--- the code computes; all others are to be believed. Definitions only.
+-- The LFO, after lfo.rs and in its order: one rounding per written operation, in the Rust's order. Definitions only.
 use Rattle.std.specs.Prelude.{Bool, true, false, not, cond, List, [], ◌∷◌, ℕ, eqb, ℤ, pos, negsuc, get_or, Float}
 use Rattle.std.specs.Float.{nan, binary32}
 use Rattle.std.specs.Float.Ieee.{lt, le, of_int, to_signed}
@@ -108,15 +107,6 @@ wave_of lut RampUp phase last = phase
 wave_of lut Square phase last = square_wave phase
 wave_of lut Sine phase last = sine_wave lut phase
 wave_of lut SAndH phase last = last
-
--- the one wave that needs the table
-unfoldable pub is_sine : Waveform → Bool
-is_sine Triangle = false
-is_sine RampDown = false
-is_sine RampUp = false
-is_sine Square = false
-is_sine Sine = true
-is_sine SAndH = false
 
 -- the wave where an LFO stands
 abbrev pub wave_at : List Float → Lfo → Float

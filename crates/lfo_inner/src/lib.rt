@@ -1,16 +1,16 @@
 // The LFO, after lfo.rs and in its order, without the refusals of `lfo`: for callers that have checked their state and
-// arguments. The generator's number goes in and comes back with the LFO, and the sine table is lent: a function with
-// `_with` takes it, the same function without makes it where the wave is a sine. Each promises its definition.
+// arguments. The generator's number goes in and comes back with the LFO. A function with `_with` is lent the sine
+// table, the same function without makes it where the wave is a sine. Each promises its definition.
 #![tactic(auto)]
 
-ghost use Rattle.std.specs.Prelude.{◌≡◌, false, List, ◌≤◌, Float};
+ghost use Rattle.std.specs.Prelude.{◌≡◌, List, ◌≤◌, Float};
 ghost use Rattle.sine.specs.Table.{lut_sine};
-ghost use Rattle.lfo_inner.specs.Lfo.{waveform_of, fresh_lfo, adjusted, moved_to, valued, restarted, is_sine};
+ghost use Rattle.lfo_inner.specs.Lfo.{waveform_of, fresh_lfo, adjusted, moved_to, restarted};
 ghost use Rattle.lfo_inner.specs.Lfo.{triangle_wave, square_wave, sine_wave, wave_at, drawn_if, at_most_one};
 ghost use Rattle.lfo_inner.specs.Lfo.{delay_stepped, delay_scrubbed, wrapped, stepped, whole_changed, scrubbed};
 ghost use Rattle.lfo_inner.specs.Lfo.{storing, settled, ramp_of, pitch_mod_of, amp_mod_of};
 
-#[derive(Clone, Copy)]
+#[derive(Clone, Copy, Debug, PartialEq, Eq)]
 pub enum Waveform {
     Triangle,
     RampDown,
@@ -21,17 +21,19 @@ pub enum Waveform {
 }
 
 // A number that is no wave's is a triangle's.
-#[tactic(auto, using(crate::proofs::Tests::no_wave), unfolding(crate::specs::Lfo::waveform_of))]
-pub fn waveform_from(n: u8) -> Waveform
-    ensures { result ≡ waveform_of n }
-{
-    match n {
-        1 => Waveform::RampDown,
-        2 => Waveform::RampUp,
-        3 => Waveform::Square,
-        4 => Waveform::Sine,
-        5 => Waveform::SAndH,
-        _ => Waveform::Triangle,
+impl From<u8> for Waveform {
+    ghost from_gives = { λ n waveform. waveform ≡ waveform_of n };
+
+    #[tactic(auto, using(crate::proofs::Tests::no_wave), unfolding(crate::specs::Lfo::waveform_of))]
+    fn from(n: u8) -> Waveform {
+        match n {
+            1 => Waveform::RampDown,
+            2 => Waveform::RampUp,
+            3 => Waveform::Square,
+            4 => Waveform::Sine,
+            5 => Waveform::SAndH,
+            _ => Waveform::Triangle,
+        }
     }
 }
 
@@ -51,7 +53,7 @@ pub struct Lfo {
     pub phase_integral: i32,
 }
 
-// Where a step or a scrub ends: the LFO, and the generator's number.
+// Where a step or a scrub begins and ends: the LFO, and the number of the generator that it draws from.
 #[derive(Clone, Copy)]
 pub struct Motion {
     pub lfo: Lfo,
@@ -60,6 +62,7 @@ pub struct Motion {
 
 // An LFO at rest. It stands still: it has no rate until a patch sets one, so that steps before the first note move no
 // phase.
+#[tactic(auto, unfolding(crate::specs::Lfo::fresh_lfo, numbers::specs::F32::decimal))]
 pub fn fresh(one_hz: f32, delay_increment: f32) -> Lfo
     ensures { result ≡ fresh_lfo one_hz delay_increment }
 {
@@ -91,24 +94,19 @@ pub fn set(lfo: Lfo, m: patch::ModulationParameters) -> Lfo
     let delay = dx_units_inner::lfo_delay(m.delay);
     let sensitivity = dx_units_inner::pitch_mod_sensitivity(m.pitch_mod_sensitivity);
     let increments = [delay.first * one_hz, delay.second * one_hz];
-    let waveform = waveform_from(m.waveform);
     Lfo {
-        phase: lfo.phase,
         frequency: dx_units_inner::lfo_frequency(m.rate) * one_hz,
-        delay_phase: lfo.delay_phase,
         delay_increment: increments,
-        value: lfo.value,
-        random_value: lfo.random_value,
-        one_hz,
         amp_mod_depth: m.amp_mod_depth as f32 * 0.01,
         pitch_mod_depth: m.pitch_mod_depth as f32 * 0.01 * sensitivity,
-        waveform,
+        waveform: Waveform::from(m.waveform),
         reset_phase: m.reset_phase != 0,
-        phase_integral: lfo.phase_integral,
+        ..lfo
     }
 }
 
 // The phase starts anew if the patch asked for it, the delay always.
+#[tactic(auto, unfolding(crate::specs::Lfo::restarted, crate::specs::Lfo::moved_to, numbers::specs::F32::decimal))]
 pub fn reset(mut lfo: Lfo) -> Lfo
     ensures { result ≡ restarted lfo }
 {
@@ -120,29 +118,29 @@ pub fn reset(mut lfo: Lfo) -> Lfo
 }
 
 // On by `scale` samples.
-pub fn step(lfo: Lfo, state: u32, scale: f32) -> Motion
-    ensures { result ≡ settled lut_sine (stepped lfo state scale) }
+pub fn step(motion: Motion, scale: f32) -> Motion
+    ensures { result ≡ settled lut_sine (stepped motion.lfo motion.state scale) }
 {
-    let there = step_silent(lfo, state, scale);
-    settle(there, value(there.lfo))
+    settle(step_silent(motion, scale), value)
 }
 
 // The same with the sine table lent.
-pub fn step_with(lut: &[f32; 641], lfo: Lfo, state: u32, scale: f32) -> Motion
-    ensures { result ≡ settled lut.now (stepped lfo state scale) }
+pub fn step_with(lut: &[f32; 641], motion: Motion, scale: f32) -> Motion
+    ensures { result ≡ settled lut.now (stepped motion.lfo motion.state scale) }
 {
-    let there = step_silent(lfo, state, scale);
-    settle(there, value_with(lut, there.lfo))
+    settle(step_silent(motion, scale), |lfo| value_with(lut, lfo))
 }
 
 // A step but for the value. It draws when the phase reaches 1, so once a turn.
-fn step_silent(lfo: Lfo, state: u32, scale: f32) -> Motion
-    ensures { result ≡ stepped lfo state scale }
+#[tactic(auto, unfolding(crate::specs::Lfo::stepped, numbers::specs::F32::decimal))]
+fn step_silent(motion: Motion, scale: f32) -> Motion
+    ensures { result ≡ stepped motion.lfo motion.state scale }
 {
+    let lfo = motion.lfo;
     let phase = lfo.phase + scale * lfo.frequency;
-    let drawn = draw_if(phase >= 1.0, lfo.random_value, state);
-    let increment = lfo.delay_increment;
-    let delay_phase = delay_step(lfo.delay_phase, increment[0], increment[1], scale);
+    let drawn = draw_if(phase >= 1.0, lfo.random_value, motion.state);
+    let [first, second] = lfo.delay_increment;
+    let delay_phase = delay_step(lfo.delay_phase, first, second, scale);
     Motion {
         lfo: move_to(lfo, wrap(phase), drawn.value, delay_phase),
         state: drawn.state,
@@ -150,6 +148,7 @@ fn step_silent(lfo: Lfo, state: u32, scale: f32) -> Motion
 }
 
 // 1 is subtracted once, which is enough: an accepted step is shorter than a turn.
+#[tactic(auto, unfolding(crate::specs::Lfo::wrapped, numbers::specs::F32::decimal))]
 fn wrap(phase: f32) -> f32
     ensures { result ≡ wrapped phase }
 {
@@ -170,6 +169,8 @@ fn delay_step(delay_phase: f32, first: f32, second: f32, scale: f32) -> f32
 }
 
 // 1 from 1 on; a NaN stays one.
+// Stays: std's `min` gives 1 at a NaN, which the definition `at_most_one` keeps.
+#[tactic(auto, unfolding(crate::specs::Lfo::at_most_one, numbers::specs::F32::decimal))]
 fn at_most_one(x: f32) -> f32
     ensures { result ≡ at_most_one x }
 {
@@ -180,47 +181,37 @@ fn at_most_one(x: f32) -> f32
 }
 
 // To the phase at `sample`, a time from 0 on.
-pub fn scrub(lfo: Lfo, state: u32, sample: f32) -> Motion
-    ensures { result ≡ settled lut_sine (scrubbed lfo state sample) }
+pub fn scrub(motion: Motion, sample: f32) -> Motion
+    ensures { result ≡ settled lut_sine (scrubbed motion.lfo motion.state sample) }
 {
-    let there = scrub_silent(lfo, state, sample);
-    settle(there, value(there.lfo))
+    settle(scrub_silent(motion, sample), value)
 }
 
 // The same with the sine table lent.
-pub fn scrub_with(lut: &[f32; 641], lfo: Lfo, state: u32, sample: f32) -> Motion
-    ensures { result ≡ settled lut.now (scrubbed lfo state sample) }
+pub fn scrub_with(lut: &[f32; 641], motion: Motion, sample: f32) -> Motion
+    ensures { result ≡ settled lut.now (scrubbed motion.lfo motion.state sample) }
 {
-    let there = scrub_silent(lfo, state, sample);
-    settle(there, value_with(lut, there.lfo))
+    settle(scrub_silent(motion, sample), |lfo| value_with(lut, lfo))
 }
 
 // A scrub but for the value. It draws when the phase's whole part, its number of turns, is not the last scrub's.
-fn scrub_silent(lfo: Lfo, state: u32, sample: f32) -> Motion
-    ensures { result ≡ scrubbed lfo state sample }
+fn scrub_silent(motion: Motion, sample: f32) -> Motion
+    ensures { result ≡ scrubbed motion.lfo motion.state sample }
 {
+    let lfo = motion.lfo;
     let phase = sample * lfo.frequency;
     let phase_integral = numbers::f32_as_i32(phase);
     let phase_fractional = phase - numbers::i32_as_f32(phase_integral);
-    let drawn = draw_if(
-        differs(phase_integral, lfo.phase_integral),
-        lfo.random_value,
-        state,
-    );
-    let increment = lfo.delay_increment;
-    let delay_phase = delay_scrub(increment[0], increment[1], sample);
+    let turned = phase_integral != lfo.phase_integral;
+    let drawn = draw_if(turned, lfo.random_value, motion.state);
+    let [first, second] = lfo.delay_increment;
+    let delay_phase = delay_scrub(first, second, sample);
     let mut there = move_to(lfo, phase_fractional, drawn.value, delay_phase);
     there.phase_integral = phase_integral;
     Motion {
         lfo: there,
         state: drawn.state,
     }
-}
-
-fn differs(a: i32, b: i32) -> bool
-    ensures { result ≡ whole_changed a b }
-{
-    a != b
 }
 
 // The delay's phase at a time from 0 on: past a half, the samples beyond it count by the second increment.
@@ -235,6 +226,7 @@ fn delay_scrub(first: f32, second: f32, sample: f32) -> f32
 }
 
 // A draw, or the last one again with the generator's number as it is.
+#[tactic(auto, unfolding(crate::specs::Lfo::drawn_if))]
 fn draw_if(draws: bool, random_value: f32, state: u32) -> random::Drawn
     ensures { result ≡ drawn_if draws random_value state }
 {
@@ -247,6 +239,7 @@ fn draw_if(draws: bool, random_value: f32, state: u32) -> random::Drawn
     }
 }
 
+#[tactic(auto, unfolding(crate::specs::Lfo::moved_to))]
 fn move_to(mut lfo: Lfo, phase: f32, random_value: f32, delay_phase: f32) -> Lfo
     ensures { result ≡ moved_to lfo phase random_value delay_phase lfo.phase_integral }
 {
@@ -256,73 +249,45 @@ fn move_to(mut lfo: Lfo, phase: f32, random_value: f32, delay_phase: f32) -> Lfo
     lfo
 }
 
-// The value at the new phase is stored.
-fn settle(there: Motion, value: f32) -> Motion
-    ensures { result ≡ storing there value }
+// The wave at the new phase is stored.
+#[tactic(auto, unfolding(crate::specs::Lfo::settled, crate::specs::Lfo::valued))]
+fn settle<W: FnOnce(Lfo) -> f32>(mut there: Motion, wave: W) -> Motion
+    requires { W.IsAlwaysCallable wave }
+    ensures { (lut : List Float) → ((y : Float) → W.post wave there.lfo y → y ≡ wave_at lut there.lfo)
+        → result ≡ settled lut there }
 {
-    let lfo = there.lfo;
-    Motion {
-        lfo: with_value(lfo, value),
-        state: there.state,
-    }
-}
-
-fn with_value(mut lfo: Lfo, value: f32) -> Lfo
-    ensures { result ≡ valued lfo value }
-{
-    lfo.value = value;
-    lfo
+    there.lfo.value = wave(there.lfo);
+    there
 }
 
 // The wave where the LFO stands, from 0 to 1. The table is made only for a sine.
 pub fn value(lfo: Lfo) -> f32
     ensures { result ≡ wave_at lut_sine lfo }
 {
-    if is_sine(lfo) {
-        let lut = sine::lut_sine();
-        return sine_wave(&lut, lfo.phase);
-    }
-    plain_wave(lfo)
+    wave(lfo, |phase| sine_wave(&sine::lut_sine(), phase))
 }
 
 // The same with the sine table lent.
 pub fn value_with(lut: &[f32; 641], lfo: Lfo) -> f32
     ensures { result ≡ wave_at lut.now lfo }
 {
-    if is_sine(lfo) {
-        return sine_wave(lut, lfo.phase);
-    }
-    plain_wave(lfo)
+    wave(lfo, |phase| sine_wave(lut, phase))
 }
 
-// The one wave that needs the table.
-#[tactic(auto, unfolding(crate::specs::Lfo::is_sine))]
-fn is_sine(lfo: Lfo) -> bool
-    ensures { result ≡ is_sine lfo.waveform }
+// The wave of an LFO. The sine alone needs a table, so it is asked for where the wave is one.
+#[tactic(auto, unfolding(crate::specs::Lfo::wave_of, numbers::specs::F32::decimal))]
+fn wave<S: FnOnce(f32) -> f32>(lfo: Lfo, sine: S) -> f32
+    requires { S.IsAlwaysCallable sine }
+    ensures { (lut : List Float) → ((y : Float) → S.post sine lfo.phase y → y ≡ sine_wave lut lfo.phase)
+        → result ≡ wave_at lut lfo }
 {
-    let waveform = lfo.waveform;
-    match waveform {
-        Waveform::Triangle => false,
-        Waveform::RampDown => false,
-        Waveform::RampUp => false,
-        Waveform::Square => false,
-        Waveform::Sine => true,
-        Waveform::SAndH => false,
-    }
-}
-
-// The waves that need no table, so the same with any; a sine is not asked for here.
-fn plain_wave(lfo: Lfo) -> f32
-    ensures { (lut : List Float) → is_sine lfo.waveform ≡ false → result ≡ wave_at lut lfo }
-{
-    let waveform = lfo.waveform;
     let phase = lfo.phase;
-    match waveform {
+    match lfo.waveform {
         Waveform::Triangle => triangle(phase),
         Waveform::RampDown => 1.0 - phase,
         Waveform::RampUp => phase,
         Waveform::Square => square(phase),
-        Waveform::Sine => 0.0,
+        Waveform::Sine => sine(phase),
         Waveform::SAndH => lfo.random_value,
     }
 }
@@ -367,6 +332,7 @@ pub fn pitch_mod(lfo: Lfo) -> f32
 }
 
 // By the stored value: 1 dims nothing.
+#[tactic(auto, unfolding(crate::specs::Lfo::amp_mod_of, numbers::specs::F32::decimal))]
 pub fn amp_mod(lfo: Lfo) -> f32
     ensures { result ≡ amp_mod_of lfo }
 {

@@ -1,32 +1,28 @@
 -- No call on the way to an identifier is refused: from an accepted voice and a tame LFO every block is answered and
 -- leaves such a voice and such an LFO.
 -- Assumes nothing.
-use mathlib.Core.Path.{◌≡◌, refl, ap, ◌∙◌}
+use mathlib.Core.Path.{◌≡◌, refl, ap, sym, ◌∙◌}
 use mathlib.Core.Bool.{Bool, true, false, cond, ◌&&◌}
-use mathlib.Core.List.{List}
 use Prim.Native.Nat.{ℕ, zero, suc}
-use borrow.Author.Tests.{eqb-true, eqb-false, eq-eqb}
-use lib.Dec.{T, eqb}
+use native.Mathlib.Omega.{arith}
+use lib.Dec.{T}
 use lib.ListN.{length}
 use lib.Ieee.{Float, lt, le}
 use lib.Ieee.Bits.{is_true}
+use Rattle.std.specs.Prelude.{Result, Ok, ⊤, take}
+use Rattle.std.specs.Result.{is_ok}
 use Rattle.numbers.specs.F32.{decimal, minus_decimal}
-use Rattle.sine.specs.Table.{lut_sine}
-use Rattle.sine.specs.Pairs.{sine_pairs}
-use Rattle.units.specs.Tables.{lut_pitch_ratio_high, lut_pitch_ratio_low}
+use Rattle.refusals.specs.declared.Refusal.{Refusal}
+use Rattle.refusals.specs.Answer.{number_given}
 use Rattle.patch.specs.declared.Patch.{Patch}
-use Rattle.patch_limits.specs.Ranges.{between, note_fits, unit_fits, sample_rate_fits}
-use Rattle.algorithms.specs.Plan.{counted}
-use Rattle.algorithms_opcodes.specs.Opcodes.{six_operators}
-use Rattle.lfo_inner.specs.declared.Lfo.{Lfo}
-use Rattle.lfo.specs.Answers as lfo
-use Rattle.lfo.specs.Calls.{Valid}
-use Rattle.lfo.proofs.Calls.{init_valid}
-use Rattle.refusals.specs.Answer.{number_told, state_after}
+use Rattle.patch.specs.Layout.{lfo_sensitivity}
+use Rattle.patch.specs.Packed.{patch_fits, modulations_fit}
+use Rattle.patch_limits.specs.Ranges.{between, note_fits, unit_fits}
+use Rattle.lfo_inner.specs.Lfo.{restarted, stepped, settled, pitch_mod_of, amp_mod_of}
+use Rattle.sine.specs.Table.{lut_sine}
 use Rattle.voice.specs.declared.Voice.{Voice}
-use Rattle.voice.specs.Answers.{state_fits, init_answer, set_patch_answer}
-use Rattle.voice.proofs.Kept.{init_fits, set_patch_keeps}
-use Rattle.voice.proofs.Switch.{init_off, set_patch_switch}
+use Rattle.voice.specs.Answers.{state_fits}
+use Rattle.voice_render.specs.declared.Rendered.{Rendered}
 use Rattle.voice_render.specs.declared.VoiceParameters.{VoiceParameters}
 use Rattle.voice_render.specs.Setup.{set_up}
 use Rattle.voice_render.specs.Block.{played_by, sounded}
@@ -36,12 +32,28 @@ use Rattle.voice_render.proofs.Kept.{render_keeps}
 use Rattle.voice_render.proofs.Switch.{fits_as_given, render_switch}
 use Rattle.identity.specs.declared.Ready.{Ready}
 use Rattle.identity.specs.declared.Playing.{Playing}
-use Rattle.identity.specs.Identity.{readied, parameters_of, silence, set_up_for, block_played, blocks_played}
-use Rattle.identity.specs.Identity.{identity_of}
+use Rattle.identity.specs.Identity.{built_in, parameters_of, silence, set_up_for, block_played, blocks_played}
+use Rattle.identity.specs.Hash.{hash_basis, hashed_samples}
+use Rattle.identity.specs.Identity.{after, note_played, notes_played, identity_of}
+use Rattle.identity.proofs.Refused.{voice_made, voice_taken, lfo_made, lfo_taken, patch_taken, modulations_taken}
+use Rattle.identity.proofs.Refused.{taken_valid, readied_is, readied_refused, voice_fits_lem, voice_off}
 use Rattle.theorem_answered.specs.Answered.{ready_answered, set_up_answered, block_answered, blocks_answered}
-use Rattle.theorem_answered.specs.Answered.{note_answered, notes_answered, identity_answered}
-use Rattle.theorem_answered.proofs.Modulations.{Tame, rate_accepted, set_keeps, ready_tame, step_tame, pitch_within}
-use Rattle.theorem_answered.proofs.Modulations.{amp_within}
+use Rattle.theorem_answered.specs.Answered.{goes_on, note_answered, notes_answered, identity_answered}
+use Rattle.theorem_answered.proofs.Modulations.{Tame, ready_tame, step_tame, pitch_within, amp_within, reset_is}
+
+-- calls that are all answered, with what they leave
+pub record Goes {A E : Type 0} (answered : Bool) (r : Result A E) (P : A → Type 0) : Type 0 where
+  pub all : answered ≡ true
+  pub value : A
+  pub there : r ≡ Ok value
+  pub has : P value
+
+-- what follows such calls
+then_goes : {A B : Type 0} {t : Bool} {r : Result A Refusal} {P : A → Type 0} (test : A → Bool)
+    (f : A → Result B Refusal) {Q : B → Type 0} (g : Goes t r P) → Goes (test g.value) (f g.value) Q
+    → Goes (t && goes_on r test) (after r f) Q
+then_goes test f g h =
+    record { all = rw (g.all, g.there) h.all; value = h.value; there = rw g.there h.there; has = h.has }
 
 together : {a b : Bool} → a ≡ true → b ≡ true → (a && b) ≡ true
 together e f = rw (e, f) refl
@@ -73,154 +85,166 @@ pub record Plain (v : Voice) : Type 0 where
   pub off : v.transposing ≡ false
 
 -- neither 9 nor 8 nor 7
-render_answered : (pairs high low : List Float) (v : Voice) (p : VoiceParameters) (block : List Float) → Plain v
-    → block_fits (length block) ≡ true → parameters_fit p ≡ true
-    → number_told (render_answer pairs high low v p block).answer ≡ 0
+render_is : (v : Voice) (p : VoiceParameters) → Plain v → parameters_fit p ≡ true
+    → (r : Rendered) × ((render_answer built_in.pairs built_in.high built_in.low v p silence).answer ≡ Ok r)
 unfolding render_answer
-render_answered pairs high low v p block t size fit =
+render_is v p t fit =
     let asked = fits_as_given v p (ap (λ (b : Bool). b && v.has_patch) t.off) in
-    rw (is_true (state_fits v) t.fits, size, asked, fit) (go v.dirty)
+    rw (is_true (state_fits v) t.fits, silence_fits, asked, fit) (go v.dirty)
   where
     go : (b : Bool)
-        → number_told (cond b (blank (set_up high low v) block)
-        (sounding (sounded pairs high low v (played_by v p) block))).answer ≡ 0
-    go true = refl
-    go false = refl
+        → (r : Rendered)
+        × ((cond b (blank (set_up built_in.high built_in.low v) silence)
+        (sounding (sounded built_in.pairs built_in.high built_in.low v (played_by v p) silence))).answer ≡ Ok r)
+    go true = (_, refl)
+    go false = (_, refl)
 
--- any block leaves such a voice
-render_plain : (pairs high low : List Float) (v : Voice) (p : VoiceParameters) (block : List Float) → Plain v
-    → Plain (voice_rendered (render_answer pairs high low v p block).answer)
-render_plain pairs high low v p block t = record {
-  fits = (render_keeps v t.fits pairs high low p block).0;
-  off = render_switch pairs high low v p block ∙ t.off;
-}
+-- and any block leaves such a voice
+render_goes : (v : Voice) (p : VoiceParameters) → Plain v → parameters_fit p ≡ true
+    → let answer = (render_answer built_in.pairs built_in.high built_in.low v p silence).answer in
+    Goes (is_ok answer) answer (λ r. Plain r.voice)
+render_goes v p t fit =
+    let answer = (render_answer built_in.pairs built_in.high built_in.low v p silence).answer in
+    let k = render_is v p t fit in
+    let kept : Plain (voice_rendered answer) =
+    record {
+      fits = (render_keeps v t.fits built_in.pairs built_in.high built_in.low p silence).0;
+      off = render_switch built_in.pairs built_in.high built_in.low v p silence ∙ t.off;
+    } in
+    record {
+      all = ap (λ a. is_ok a) k.1;
+      value = k.0;
+      there = k.1;
+      has = rw k.1 at kept;
+    }
 
 -- ---- a block of a note
 
 -- what a block is played from, and leaves: a voice that 9 accepts, its switch off, and a tame LFO
 pub record Playable (s : Playing) : Type 0 where
   pub voice : Plain s.voice
-  pub lfo : Tame s.lfo
+  pub lfo : Tame s.motion.lfo
 
-module _ (pairs high low : List Float) (note : Float) (key : KeyFits note) where
-  set_up_answered_lem : (v : Voice) → Plain v → set_up_answered pairs high low v note ≡ true
-  unfolding set_up_answered decimal minus_decimal le lt
-  set_up_answered_lem v t =
-      eq-eqb _ 0
-      (render_answered pairs high low v _ silence t silence_fits (parameters_fit_lem note _ _ false key refl refl))
+module _ (note : Float) (key : KeyFits note) where
+  set_up_goes : (v : Voice) → Plain v → Goes (set_up_answered built_in v note) (set_up_for built_in v note) Plain
+  unfolding set_up_answered set_up_for decimal minus_decimal le lt
+  set_up_goes v t =
+      let g = render_goes v (parameters_of note false (decimal 0 0) (decimal 0 0)) t
+      (parameters_fit_lem note _ _ false key refl refl) in
+      record { all = g.all; value = g.value.voice; there = rw g.there refl; has = g.has }
 
-  set_up_keeps : (v : Voice) → Plain v → Plain (set_up_for pairs high low v note)
-  unfolding set_up_for
-  set_up_keeps v t = render_plain pairs high low v _ silence t
-
-  block_answered_lem : (gate : Bool) (s : Playing) → Playable s
-      → block_answered lut_sine pairs high low note gate s ≡ true
-  unfolding block_answered
-  block_answered_lem gate s t =
-      let step = step_tame s.lfo s.random t.lfo in
-      let pitch = pitch_within _ step.1 in
-      let amp = amp_within _ step.1 in
-      let fit = parameters_fit_lem note _ _ gate key (is_true _ pitch.1) (is_true _ amp.1) in
-      let block = render_answered pairs high low s.voice _ silence t.voice silence_fits fit in
-      together (together (together (eq-eqb _ 0 step.0) (eq-eqb _ 0 pitch.0)) (eq-eqb _ 0 amp.0)) (eq-eqb _ 0 block)
-
-  block_keeps : (gate : Bool) (s : Playing) → Playable s → Playable (block_played lut_sine pairs high low note gate s)
-  unfolding block_played
-  block_keeps gate s t =
+  block_goes : (gate : Bool) (s : Playing) → Playable s
+      → Goes (block_answered built_in note gate s) (block_played built_in note gate s) Playable
+  unfolding block_answered block_played
+  block_goes gate s t =
+      let m = settled lut_sine (stepped s.motion.lfo s.motion.state (decimal 64 0)) in
+      let step = step_tame s.motion t.lfo in
+      let pitch = pitch_within m.lfo step.1 in
+      let amp = amp_within m.lfo step.1 in
+      let p = parameters_of note gate (pitch_mod_of m.lfo) (amp_mod_of m.lfo) in
+      let block = (render_answer built_in.pairs built_in.high built_in.low s.voice p silence).block in
+      let g = render_goes s.voice p t.voice
+      (parameters_fit_lem note _ _ gate key (is_true _ pitch.1) (is_true _ amp.1)) in
       record {
-        voice = render_plain pairs high low s.voice _ silence t.voice;
-        lfo = (step_tame s.lfo s.random t.lfo).1;
+        all = rw (step.0, pitch.0, amp.0, g.there) refl;
+        value = record { voice = g.value.voice; motion = m; hash = hashed_samples s.hash (take 64 block) };
+        there = rw (step.0, pitch.0, amp.0, g.there) refl;
+        has = record { voice = g.has; lfo = step.1 };
       }
 
   -- ---- so many blocks
 
-  blocks_keep : (gate : Bool) (n : ℕ) (s : Playing) → Playable s
-      → Playable (blocks_played lut_sine pairs high low note gate n s)
-  unfolding blocks_played
-  blocks_keep gate zero s t = t
-  blocks_keep gate (suc n) s t =
-      block_keeps gate (blocks_played lut_sine pairs high low note gate n s) (blocks_keep gate n s t)
-
-  blocks_answered_lem : (gate : Bool) (n : ℕ) (s : Playing) → Playable s
-      → blocks_answered lut_sine pairs high low note gate n s ≡ true
-  unfolding blocks_answered
-  blocks_answered_lem gate zero s t = refl
-  blocks_answered_lem gate (suc n) s t =
-      together (blocks_answered_lem gate n s t) (block_answered_lem gate _ (blocks_keep gate n s t))
+  blocks_go : (gate : Bool) (n : ℕ) (s : Playing) → Playable s
+      → Goes (blocks_answered built_in note gate n s) (blocks_played built_in note gate n s) Playable
+  unfolding blocks_answered blocks_played
+  blocks_go gate zero s t = record { all = refl; value = s; there = refl; has = t }
+  blocks_go gate (suc n) s t =
+      let one = block_goes gate s t in
+      then_goes _ _ one (blocks_go gate n one.value one.has)
 
   -- ---- a note
 
-  pub note_answered_lem : (r : Ready) (hash : ℕ) → Plain r.voice → Tame r.lfo
-      → note_answered lut_sine pairs high low r note hash ≡ true
-  unfolding note_answered
-  note_answered_lem r hash v l =
+  pub note_goes : (r : Ready) (hash : ℕ) → Plain r.voice → Tame r.lfo
+      → Goes (note_answered built_in r note hash) (note_played built_in r note hash) (λ h. ⊤)
+  unfolding note_answered note_played
+  note_goes r hash v l =
+      let up = set_up_goes r.voice v in
       let s : Playing =
-      record { voice = set_up_for pairs high low r.voice note; lfo = r.lfo; random = 0x21; hash = hash } in
-      let t : Playable s = record { voice = set_up_keeps r.voice v; lfo = l } in
-      together (together (set_up_answered_lem r.voice v) (blocks_answered_lem true 128 s t))
-      (blocks_answered_lem false 64 _ (blocks_keep true 128 s t))
+      record { voice = up.value; motion = record { lfo = r.lfo; state = 0x21 }; hash = hash } in
+      let held = blocks_go true 128 s (record { voice = up.has; lfo = l }) in
+      let released = blocks_go false 64 held.value held.has in
+      record {
+        all = rw (up.all, up.there, held.all, held.there) released.all;
+        value = released.value.hash;
+        there = rw (up.there, held.there, released.there) refl;
+        has = tt;
+      }
 
 -- ---- the three notes
 
-six_counted : T (counted 6)
-unfolding counted
-six_counted = tt
+keys_fit : KeyFits (decimal 36 0) × KeyFits (decimal 60 0) × KeyFits (decimal 84 0)
+unfolding decimal le lt
+keys_fit = (refl, refl, refl)
 
-ready_plain : (p : Patch) → Plain (readied p).voice
-unfolding readied
-ready_plain p =
-    let fresh = state_after (init_answer 6 (decimal 48000 0)) in
-    record {
-      fits = (set_patch_keeps fresh (init_fits 6 (decimal 48000 0) six_counted rate_accepted) p six_operators).0;
-      off = set_patch_switch fresh p six_operators ∙ init_off 6 (decimal 48000 0);
-    }
-
--- the notes of every patch that a voice and an LFO take
-pub notes_answered_lem : (p : Patch) → (readied p).number ≡ 0
-    → notes_answered lut_sine sine_pairs lut_pitch_ratio_high lut_pitch_ratio_low (readied p) ≡ true
-unfolding notes_answered decimal le lt
-notes_answered_lem p e = together (together (note _ refl _) (note _ refl _)) (note _ refl _)
-  where
-    note : (n : Float) → KeyFits n → (hash : ℕ)
-        → note_answered lut_sine sine_pairs lut_pitch_ratio_high lut_pitch_ratio_low (readied p) n hash ≡ true
-    note n k hash =
-        note_answered_lem sine_pairs lut_pitch_ratio_high lut_pitch_ratio_low n k (readied p) hash (ready_plain p)
-        (ready_tame p e)
+notes_go : (r : Ready) → Plain r.voice → Tame r.lfo
+    → Goes (notes_answered built_in r) (notes_played built_in r) (λ h. ⊤)
+unfolding notes_answered notes_played
+notes_go r v l =
+    let one = note_goes (decimal 36 0) keys_fit.0 r hash_basis v l in
+    let two = note_goes (decimal 60 0) keys_fit.1 r one.value v l in
+    let three = note_goes (decimal 84 0) keys_fit.2 r two.value v l in
+    then_goes _ _ one (then_goes _ _ two three)
 
 -- ---- what comes before the notes
 
--- the number of `readied` is 0 where both its parts are
-both_zero : (a b : ℕ) → cond (eqb a 0) b a ≡ 0 → (a ≡ 0) × (b ≡ 0)
-both_zero a b e = go (eqb a 0) refl e
+module _ (p : Patch) (fits : patch_fits p ≡ true) (modulated : modulations_fit p.modulations lfo_sensitivity ≡ true) where
+  ready_answered_lem : ready_answered p ≡ true
+  unfolding ready_answered
+  ready_answered_lem =
+      rw (
+        voice_made,
+        patch_taken p fits,
+        lfo_made,
+        modulations_taken p true modulated,
+        reset_is (lfo_taken p) (taken_valid p modulated),
+      ) refl
+
+  -- every call is answered, and there is an identifier
+  pub identity_goes : Goes (identity_answered p) (identity_of p) (λ h. ⊤)
+  unfolding identity_of identity_answered
+  identity_goes =
+      let ready = readied_is p fits modulated in
+      let v : Plain (voice_taken p) = record { fits = voice_fits_lem p; off = voice_off p } in
+      let g = notes_go (record { voice = voice_taken p; lfo = restarted (lfo_taken p) }) v (ready_tame p modulated) in
+      record {
+        all = rw (ready_answered_lem, ready) g.all;
+        value = g.value;
+        there = rw ready g.there;
+        has = tt;
+      }
+
+-- a patch in range with a sensitivity that an LFO takes has an identifier; any other gets 6
+pub number_of : (p : Patch)
+    → number_given (identity_of p) ≡ cond (patch_fits p && modulations_fit p.modulations lfo_sensitivity) 0 6
+unfolding identity_of
+number_of p = go (patch_fits p) (modulations_fit p.modulations lfo_sensitivity) refl refl
   where
-    go : (c : Bool) → eqb a 0 ≡ c → cond c b a ≡ 0 → (a ≡ 0) × (b ≡ 0)
-    go true h z = (eqb-true a 0 h, z)
-    go false h z = absurd (eqb-false a 0 h z)
+    refused : (patch_fits p && modulations_fit p.modulations lfo_sensitivity) ≡ false → number_given (identity_of p) ≡ 6
+    refused e = rw (readied_refused p e) refl
 
-inits_answered : (number_told (init_answer 6 (decimal 48000 0)) ≡ 0) × ((lfo.init_answer (decimal 48000 0)).number ≡ 0)
-unfolding init_answer lfo.init_answer
-inits_answered =
-    rw (is_true (counted 6) six_counted, is_true (sample_rate_fits (decimal 48000 0)) rate_accepted) (refl, refl)
-
--- an LFO that was set, taken or refused, can be reset
-reset_answered : (l : Lfo) → Valid l → (lfo.reset_answer l).number ≡ 0
-unfolding lfo.reset_answer
-reset_answered l v = rw (is_true (lfo.state_fits l) v.accepted) refl
-
-pub ready_answered_lem : (p : Patch) → (readied p).number ≡ 0 → ready_answered p ≡ true
-unfolding readied ready_answered
-ready_answered_lem p e =
-    let v = set_patch_answer (state_after (init_answer 6 (decimal 48000 0))) p six_operators in
-    let l = lfo.set_answer (lfo.init_answer (decimal 48000 0)).lfo p.modulations in
-    let set = both_zero (number_told v) l.number e in
-    let reset = reset_answered l.lfo (set_keeps p.modulations _ (init_valid (decimal 48000 0) rate_accepted)) in
-    together
-    (together
-    (together (together (eq-eqb _ 0 inits_answered.0) (eq-eqb _ 0 set.0)) (eq-eqb _ 0 inits_answered.1))
-    (eq-eqb _ 0 set.1))
-    (eq-eqb _ 0 reset)
+    go : (a b : Bool) → patch_fits p ≡ a → modulations_fit p.modulations lfo_sensitivity ≡ b
+        → number_given (identity_of p) ≡ cond (a && b) 0 6
+    go true true e f = rw (identity_goes p e f).there refl
+    go true false e f = refused (rw (e, f) refl)
+    go false b e f = refused (rw e refl)
 
 -- a patch that has an identifier has it from answered calls alone
-pub identity_answered_lem : (p : Patch) → (identity_of p).number ≡ 0 → identity_answered p ≡ true
-unfolding identity_of identity_answered
-identity_answered_lem p e = together (ready_answered_lem p e) (notes_answered_lem p e)
+pub identity_answered_lem : (p : Patch) → number_given (identity_of p) ≡ 0 → identity_answered p ≡ true
+identity_answered_lem p e =
+    go (patch_fits p) (modulations_fit p.modulations lfo_sensitivity) refl refl (sym (number_of p) ∙ e)
+  where
+    go : (a b : Bool) → patch_fits p ≡ a → modulations_fit p.modulations lfo_sensitivity ≡ b
+        → ◌≡◌ {A = ℕ} (cond (a && b) 0 6) 0 → identity_answered p ≡ true
+    go true true f g h = (identity_goes p f g).all
+    go true false f g h = let z : ⊥ = omega arith in absurd z
+    go false b f g h = let z : ⊥ = omega arith in absurd z

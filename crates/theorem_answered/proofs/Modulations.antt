@@ -1,10 +1,9 @@
 -- An LFO's modulations stay in a voice block's ranges: from the state that an accepted patch sets it to, every step of
 -- 64 samples is accepted, and then its pitch modulation is from -4 to 4 and its amplitude modulation from 0 to 1.
 -- Assumes nothing.
-use mathlib.Core.Path.{◌≡◌, refl, sym, ◌∙◌, ap, subst}
-use mathlib.Core.Bool.{Bool, true, false, ◌&&◌, cond}
+use mathlib.Core.Path.{◌≡◌, refl}
+use mathlib.Core.Bool.{true}
 use Prim.Native.Nat.{ℕ}
-use native.Mathlib.Omega.{arith}
 use lib.Dec.{T}
 use lib.IntN.{pos}
 use lib.Ieee.{Float, lt, le}
@@ -15,26 +14,27 @@ use Rattle.dx_units_inner.specs.Units.{pitch_mod_sensitivity_of}
 use Rattle.patch.specs.declared.Patch.{Patch}
 use Rattle.patch.specs.declared.ModulationParameters.{ModulationParameters}
 use Rattle.patch.specs.Layout.{lfo_sensitivity}
-use Rattle.patch.specs.Packed.{patch_fits, modulations_fit}
+use Rattle.patch.specs.Packed.{modulations_fit}
 use Rattle.patch_limits.specs.Ranges.{between, unit_fits, sample_rate_fits}
 use Rattle.sine.specs.Table.{lut_sine}
+use Rattle.std.specs.Prelude.{Ok}
 use Rattle.lfo_inner.specs.declared.Lfo.{Lfo}
+use Rattle.lfo_inner.specs.declared.Motion.{Motion}
 use Rattle.lfo_inner.specs.Lfo.{fresh_lfo, adjusted, moved_to, valued, restarted, stepped, settled, first_of, second_of}
 use Rattle.lfo_inner.specs.Lfo.{ramp_of, pitch_mod_of, amp_mod_of}
-use Rattle.lfo.specs.Answers.{from_zero, state_fits, step_fits, moved, init_answer, set_answer, reset_answer}
-use Rattle.lfo.specs.Answers.{move_answer, step_answer, read_answer, pitch_mod_answer, amp_mod_answer}
-use Rattle.lfo.specs.Calls.{Set, Reset, Step, answer_to, Valid}
+use Rattle.lfo.specs.Answers.{from_zero, state_fits, step_fits, step_answer, reset_answer, pitch_mod_answer}
+use Rattle.lfo.specs.Answers.{amp_mod_answer}
+use Rattle.lfo.specs.Calls.{Reset, Step, answer_to, Valid}
 use Rattle.lfo.proofs.Phases.{FromZero, plus}
 use Rattle.lfo.proofs.Accepted.{phase_part}
-use Rattle.lfo.proofs.Calls.{init_valid, call_keeps}
-use Rattle.identity.specs.Identity.{readied, identity_of}
-use Rattle.identity.proofs.Refused.{number_of}
+use Rattle.lfo.proofs.Calls.{call_keeps}
+use Rattle.identity.proofs.Refused.{lfo_taken, taken_valid}
 use Rattle.theorem_answered.proofs.Ranges.{share_low, share_high, held_low, held_high}
 use Rattle.numbers.proofs.Sizes.{Held, Share}
 use Rattle.theorem_answered.proofs.Shares.{share_small, product_small, product_two, product_share, past_half}
 use Rattle.theorem_answered.proofs.Waves.{zero_share, down_share, wave_share, drawn_share}
 use Rattle.theorem_answered.proofs.Delays.{delay_share, ramp_share}
-use Rattle.theorem_answered.proofs.Settings.{sample, frequency_slow, first_from_zero, second_from_zero, amp_depth_lem}
+use Rattle.theorem_answered.proofs.Settings.{frequency_slow, first_from_zero, second_from_zero, amp_depth_lem}
 use Rattle.theorem_answered.proofs.Settings.{pitch_depth_lem, sensitivity}
 
 -- an LFO whose step of 64 samples is accepted and whose modulations are in a block's ranges
@@ -73,8 +73,8 @@ amp_share lfo t =
     product_share (x ⊗ y) lfo.amp_mod_depth (product_share x y (down_share lfo.value t.value) r) t.amp_depth
 
 pub pitch_within : (lfo : Lfo) → Tame lfo
-    → ((pitch_mod_answer lfo).number ≡ 0) × T (between (minus_decimal 4 0) (decimal 4 0) (pitch_mod_answer lfo).value)
-unfolding pitch_mod_answer read_answer
+    → (pitch_mod_answer lfo ≡ Ok (pitch_mod_of lfo)) × T (between (minus_decimal 4 0) (decimal 4 0) (pitch_mod_of lfo))
+unfolding pitch_mod_answer
 pitch_within lfo t =
     let p = pitch_held lfo t in
     rw (is_true (state_fits lfo) t.valid.accepted) (
@@ -83,8 +83,8 @@ pitch_within lfo t =
           (held_low (pitch_mod_of lfo) p) (held_high (pitch_mod_of lfo) p),
     )
 
-pub amp_within : (lfo : Lfo) → Tame lfo → ((amp_mod_answer lfo).number ≡ 0) × T (unit_fits (amp_mod_answer lfo).value)
-unfolding amp_mod_answer read_answer
+pub amp_within : (lfo : Lfo) → Tame lfo → (amp_mod_answer lfo ≡ Ok (amp_mod_of lfo)) × T (unit_fits (amp_mod_of lfo))
+unfolding amp_mod_answer
 amp_within lfo t =
     let u = amp_share lfo t in
     rw (is_true (state_fits lfo) t.valid.accepted) (
@@ -107,14 +107,14 @@ step_accepted : (lfo : Lfo) → Tame lfo → step_fits lfo (decimal 64 0) ≡ tr
 unfolding step_fits
 step_accepted lfo t = rw (scale_fits, is_true (lt (decimal 64 0 ⊗ lfo.frequency) (decimal 1 0)) t.slow) refl
 
-step_is : (lfo : Lfo) (state : ℕ) → Tame lfo
-    → step_answer lut_sine lfo state (decimal 64 0) ≡ moved (settled lut_sine (stepped lfo state (decimal 64 0)))
-unfolding step_answer move_answer
-step_is lfo state t = rw (is_true (state_fits lfo) t.valid.accepted, step_accepted lfo t) refl
+step_is : (m : Motion) → Tame m.lfo
+    → step_answer lut_sine m (decimal 64 0) ≡ Ok (settled lut_sine (stepped m.lfo m.state (decimal 64 0)))
+unfolding step_answer
+step_is m t = rw (is_true (state_fits m.lfo) t.valid.accepted, step_accepted m.lfo t) refl
 
-step_valid : (lfo : Lfo) (state : ℕ) → Tame lfo → Valid (step_answer lut_sine lfo state (decimal 64 0)).lfo
+step_valid : (m : Motion) → Tame m.lfo → Valid (settled lut_sine (stepped m.lfo m.state (decimal 64 0))).lfo
 unfolding answer_to
-step_valid lfo state t = (call_keeps lfo t.valid (Step lut_sine state (decimal 64 0))).0
+step_valid m t = rw (step_is m t) at (call_keeps m.lfo t.valid (Step lut_sine m.state (decimal 64 0))).0
 
 settled_tame : (lfo : Lfo) (state : ℕ) → Tame lfo → Valid (settled lut_sine (stepped lfo state (decimal 64 0))).lfo
     → Tame (settled lut_sine (stepped lfo state (decimal 64 0))).lfo
@@ -137,71 +137,25 @@ settled_tame lfo state t v =
       pitch_depth = t.pitch_depth;
     }
 
-pub step_tame : (lfo : Lfo) (state : ℕ) → Tame lfo
-    → ((step_answer lut_sine lfo state (decimal 64 0)).number ≡ 0)
-    × Tame (step_answer lut_sine lfo state (decimal 64 0)).lfo
-step_tame lfo state t =
-    let e = step_is lfo state t in (
-      ap (λ m. m.number) e,
-      subst (λ m. Tame m.lfo) (sym e) (settled_tame lfo state t (subst (λ m. Valid m.lfo) e (step_valid lfo state t))),
-    )
+pub step_tame : (m : Motion) → Tame m.lfo
+    → let there = settled lut_sine (stepped m.lfo m.state (decimal 64 0)) in
+    (step_answer lut_sine m (decimal 64 0) ≡ Ok there) × Tame there.lfo
+step_tame m t = (step_is m t, settled_tame m.lfo m.state t (step_valid m t))
 
 -- ---- the beginning
-
--- an accepted patch's modulations are in range
-fits_of : (a b : Bool) → ◌≡◌ {A = ℕ} (cond (a && b) 0 6) 0 → b ≡ true
-fits_of true true h = refl
-fits_of true false h = let z : ⊥ = omega arith in absurd z
-fits_of false b h = let z : ⊥ = omega arith in absurd z
-
-modulations_fit_lem : (p : Patch) → (readied p).number ≡ 0 → modulations_fit p.modulations lfo_sensitivity ≡ true
-unfolding identity_of
-modulations_fit_lem p h = fits_of (patch_fits p) (modulations_fit p.modulations lfo_sensitivity) (sym (number_of p) ∙ h)
 
 pub rate_accepted : T (sample_rate_fits (decimal 48000 0))
 unfolding sample_rate_fits decimal le lt
 rate_accepted = tt
 
-fresh_is : (init_answer (decimal 48000 0)).lfo ≡ fresh_lfo sample (decimal 1 1)
-unfolding init_answer
-fresh_is = rw (is_true (sample_rate_fits (decimal 48000 0)) rate_accepted) refl
-
-fresh_valid : Valid (fresh_lfo sample (decimal 1 1))
-fresh_valid = subst Valid fresh_is (init_valid (decimal 48000 0) rate_accepted)
-
-module _ (m : ModulationParameters) where
-  set_is : (lfo : Lfo) → Valid lfo → modulations_fit m lfo_sensitivity ≡ true → (set_answer lfo m).lfo ≡ adjusted lfo m
-  unfolding set_answer
-  set_is lfo v h = rw (is_true (state_fits lfo) v.accepted, h) refl
-
-  -- taken or refused
-  pub set_keeps : (lfo : Lfo) → Valid lfo → Valid (set_answer lfo m).lfo
-  unfolding answer_to
-  set_keeps lfo v = (call_keeps lfo v (Set m)).0
-
-  set_valid : (lfo : Lfo) → Valid lfo → modulations_fit m lfo_sensitivity ≡ true → Valid (adjusted lfo m)
-  set_valid lfo v h = subst Valid (set_is lfo v h) (set_keeps lfo v)
-
-reset_is : (lfo : Lfo) → Valid lfo → (reset_answer lfo).lfo ≡ restarted lfo
+-- an LFO that an accepted patch set can be reset
+pub reset_is : (lfo : Lfo) → Valid lfo → reset_answer lfo ≡ Ok (restarted lfo)
 unfolding reset_answer
 reset_is lfo v = rw (is_true (state_fits lfo) v.accepted) refl
 
 reset_valid : (lfo : Lfo) → Valid lfo → Valid (restarted lfo)
 unfolding answer_to
-reset_valid lfo v = subst Valid (reset_is lfo v) (call_keeps lfo v Reset).0
-
--- the LFO that an accepted patch sets
-abbrev set_to : ModulationParameters → Lfo
-set_to m = adjusted (fresh_lfo sample (decimal 1 1)) m
-
-ready_is : (p : Patch) → modulations_fit p.modulations lfo_sensitivity ≡ true
-    → (readied p).lfo ≡ restarted (set_to p.modulations)
-unfolding readied
-ready_is p h =
-    let m = p.modulations in
-    ap (λ l. (reset_answer (set_answer l m).lfo).lfo) fresh_is
-    ∙ ap (λ l. (reset_answer l).lfo) (set_is m (fresh_lfo sample (decimal 1 1)) fresh_valid h)
-    ∙ reset_is (set_to m) (set_valid m (fresh_lfo sample (decimal 1 1)) fresh_valid h)
+reset_valid lfo v = rw (reset_is lfo v) at (call_keeps lfo v Reset).0
 
 pitch_depth_held : (m : ModulationParameters) → modulations_fit m lfo_sensitivity ≡ true
     → Held 2 1 (as_float m.pitch_mod_depth ⊗ decimal 1 2 ⊗ pitch_mod_sensitivity_of m.pitch_mod_sensitivity)
@@ -210,9 +164,11 @@ pitch_depth_held m h =
     product_two x (pitch_mod_sensitivity_of m.pitch_mod_sensitivity) (share_small x (pitch_depth_lem m h))
     (sensitivity m h)
 
-set_tame : (m : ModulationParameters) → modulations_fit m lfo_sensitivity ≡ true → Tame (restarted (set_to m))
-set_tame m h =
-    let v = reset_valid (set_to m) (set_valid m (fresh_lfo sample (decimal 1 1)) fresh_valid h) in
+-- the LFO that it sets
+pub ready_tame : (p : Patch) → modulations_fit p.modulations lfo_sensitivity ≡ true → Tame (restarted (lfo_taken p))
+ready_tame p h =
+    let m = p.modulations in
+    let v = reset_valid (lfo_taken p) (taken_valid p h) in
     unfold restarted moved_to adjusted fresh_lfo in
     record {
       valid = v;
@@ -225,8 +181,3 @@ set_tame m h =
       amp_depth = amp_depth_lem m h;
       pitch_depth = pitch_depth_held m h;
     }
-
-pub ready_tame : (p : Patch) → (readied p).number ≡ 0 → Tame (readied p).lfo
-ready_tame p h =
-    let f = modulations_fit_lem p h in
-    subst Tame (sym (ready_is p f)) (set_tame p.modulations f)

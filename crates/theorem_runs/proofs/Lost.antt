@@ -6,11 +6,11 @@ use mathlib.Core.List.{List}
 use Prim.Native.Nat.{ℕ}
 use lib.Dec.{T}
 use lib.Ieee.{Float}
+use Rattle.refusals.specs.Answer.{number_told}
 use Rattle.lfo_inner.specs.declared.Lfo.{Lfo}
 use Rattle.lfo.specs.Answers as LfoAnswers
 use Rattle.lfo.specs.Calls as lfo
 use Rattle.lfo.proofs.Calls as LfoLaws
-use Rattle.refusals.specs.Answer.{number_told}
 use Rattle.voice.specs.declared.Voice.{Voice}
 use Rattle.voice.specs.Voice.{no_voice}
 use Rattle.voice.specs.Answers.{state_fits, init_answer, set_patch_answer, take_patch_answer, patch_answer}
@@ -103,7 +103,7 @@ lfo_stays l e s h (StartLfo stores rate) t = absurd t
 lfo_stays l e s h (OfLfo call) t =
     rw (lfo_refused s (ap LfoAnswers.state_fits h ∙ e) call, (lfo_refusal_is s.lfo call).0) (h, tt)
 
-pub lfo_lost : (rate : Float) → ((LfoAnswers.init_answer rate).number ≡ 0 → ⊥)
+pub lfo_lost : (rate : Float) → (number_told (LfoAnswers.init_answer rate) ≡ 0 → ⊥)
     → (s : State) (calls : List Call) → T (each keeps_lfo calls)
     → let lost = (step_of (StartLfo true rate) s).state in
     ((ending calls lost).lfo ≡ LfoAnswers.no_lfo) × T (throughout lfo_nine calls (run calls lost))

@@ -10,11 +10,11 @@ use lib.Ieee.{Float}
 use lib.Ieee.Fits.{and_i, and_l, and_r}
 use Rattle.units.specs.Tables.{lut_pitch_ratio_high, lut_pitch_ratio_low}
 use Rattle.algorithms.specs.Plan.{counted}
+use Rattle.refusals.specs.Answer.{number_told, state_after}
 use Rattle.lfo.specs.Answers as LfoAnswers
 use Rattle.lfo.specs.Calls.{Valid}
 use Rattle.lfo.proofs.Calls as lfo
 use Rattle.patch_limits.specs.Ranges.{sample_rate_fits}
-use Rattle.refusals.specs.Answer.{number_told, state_after}
 use Rattle.voice.specs.declared.Voice.{Voice}
 use Rattle.voice.specs.Answers.{state_fits, init_answer}
 use Rattle.voice.proofs.Kept.{NoNine, init_fits, init_keeps, set_patch_keeps, take_patch_keeps, patch_no_nine}
@@ -91,7 +91,7 @@ step_keeps s g (OfVoice call) t =
 step_keeps s g (StartLfo stores rate) t =
     let a = LfoAnswers.init_answer rate in
     let k = lfo.init_keeps rate in
-    let l = stored_has Valid stores a.number a.lfo s.lfo g.lfo k.1 t in
+    let l = stored_has Valid stores (number_told a) (state_after a) s.lfo g.lfo k.1 t in
     (record { voice = g.voice; lfo = l }, k.0)
 step_keeps s g (OfLfo call) t =
     let k = lfo.call_keeps s.lfo g.lfo call in

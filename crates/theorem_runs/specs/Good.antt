@@ -15,7 +15,7 @@ pub record Good (s : State) : Type 0 where
 -- what a voice and an LFO start from
 unfoldable pub fresh : ℕ → Float → Float → State
 fresh operators rate lfo_rate =
-    record { voice = state_after (init_answer operators rate); lfo = (lfo.init_answer lfo_rate).lfo }
+    record { voice = state_after (init_answer operators rate); lfo = state_after (lfo.init_answer lfo_rate) }
 
 -- ---- a test of every call of a list, and of what every call of a run gave
 
@@ -32,7 +32,7 @@ throughout test (call ∷ calls) (t ∷ ts) = test call t && throughout test cal
 unfoldable pub careful : Call → Bool
 careful (Start stores operators rate) = not stores || eqb (number_told (init_answer operators rate)) 0
 careful (OfVoice call) = true
-careful (StartLfo stores rate) = not stores || eqb (lfo.init_answer rate).number 0
+careful (StartLfo stores rate) = not stores || eqb (number_told (lfo.init_answer rate)) 0
 careful (OfLfo call) = true
 
 unfoldable pub is_nine : Step → Bool

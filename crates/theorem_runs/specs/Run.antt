@@ -1,10 +1,10 @@
 -- A whole run: from a state, any list of calls of a voice and an LFO, accepted or refused, gives for each call its
 -- answer, buffers and generator's number included, and the state that the next call gets. Definitions only.
 use Rattle.std.specs.Prelude.{ℕ, Bool, cond, ◌||◌, List, [], ◌∷◌, eqb, Float}
+use Rattle.refusals.specs.Answer.{number_told, state_after}
 use Rattle.lfo_inner.specs.declared.Lfo.{Lfo}
 use Rattle.lfo.specs.Answers as LfoAnswers
 use Rattle.lfo.specs.Calls as lfo
-use Rattle.refusals.specs.Answer.{number_told, state_after}
 use Rattle.voice.specs.declared.Voice.{Voice}
 use Rattle.voice.specs.Answers.{init_answer}
 use Rattle.theorem_runs.specs.VoiceCalls as voice
@@ -57,7 +57,7 @@ step_of (OfVoice call) s =
     record { answer = FromVoice a; state = with_voice s (voice.voice_after s.voice a) }
 step_of (StartLfo stores rate) s =
     let a = LfoAnswers.init_answer rate in
-    let l = stored stores a.number a.lfo s.lfo in
+    let l = stored stores (number_told a) (state_after a) s.lfo in
     record { answer = FromLfo (lfo.Prepares a); state = with_lfo s l }
 step_of (OfLfo call) s =
     let a = lfo.answer_to call s.lfo in

@@ -15,7 +15,7 @@ returns c =
     let held : mag lfo.phase_integral < 2 ^ 31 = omega arith in
     simp (
       c.lfo_frequency.ensures,
-      c.waveform_from-waveform.ensures,
+      c.from.ensures,
       c.pitch_mod_sensitivity-sensitivity.ensures,
       c.lfo_delay-delay.ensures,
       back lfo.phase_integral held,

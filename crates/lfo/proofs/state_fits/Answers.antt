@@ -1,9 +1,0 @@
--- `lfo::state_fits` meets its contract. Assumes nothing.
-use Rattle.lfo.specs.Answers.{state_fits}
-use Rattle.numbers.specs.F32.{decimal}
-use lib.Ieee.{of_bits}
-use Rattle.lfo.proofs.state_fits.Goals as goal
-
-pub returns : goal.returns
-unfolding state_fits decimal of_bits
-returns c = simp c.from_zero.ensures

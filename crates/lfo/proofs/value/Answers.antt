@@ -1,7 +1,0 @@
--- `lfo::value` meets its contract. Assumes nothing.
-use Rattle.lfo.specs.Answers.{value_answer}
-use Rattle.lfo.proofs.value.Goals as goal
-
-pub returns : goal.returns
-unfolding value_answer
-returns c = simp (c.reading.ensures, c.value.ensures)

@@ -1,9 +1,0 @@
--- `lfo_inner::amp_mod` meets its contract. Assumes nothing.
-use Rattle.lfo_inner.specs.Lfo.{amp_mod_of}
-use Rattle.numbers.specs.F32.{decimal}
-use lib.Ieee.{of_bits}
-use Rattle.lfo_inner.proofs.amp_mod.Goals as goal
-
-pub returns : goal.returns
-unfolding amp_mod_of decimal of_bits
-returns c = simp c.delay_ramp.ensures
