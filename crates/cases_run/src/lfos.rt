@@ -40,7 +40,13 @@ fn played(from: Motion, blocks: u32) -> Result<Motion, Refusal> {
 
 // What a worker played before, the number that its generator had then, and four draws of the patch that is to be
 // identified, the fastest sample and hold, sixteen blocks apart.
-fn put_worker(line: &mut Line, name: &str, rate: u8, waveform: u8, blocks: u32) -> Result<(), Refusal> {
+fn put_worker(
+    line: &mut Line,
+    name: &str,
+    rate: u8,
+    waveform: u8,
+    blocks: u32,
+) -> Result<(), Refusal> {
     let before = played(ready(rate, waveform, START)?, blocks)?;
     let number = before.state;
     line.put(format_args!("{name}{number:08x}, draws"));
