@@ -1,5 +1,5 @@
--- A bank from one channel to another: the check's answer, its parts, its data and its checksum stay, so whatever is made of
--- them stays too, as the lines that `identify` prints. Assumes nothing.
+-- A bank from one channel to another: the check's answer, its parts, its data and its checksum stay, so whatever is
+-- made of them stays too, as the lines that `identify` prints. Assumes nothing.
 use mathlib.Core.Path.{◌≡◌, refl, ◌∙◌, ap}
 use mathlib.Core.List.{List}
 use Prim.Native.Nat.{ℕ, zero, suc, ◌+◌, ◌*◌, ◌≤◌}

@@ -28,7 +28,8 @@ module _ (dump : List ℕ) (sound : validate_of dump ≡ Ok tt) where
   first_parts zero h = refl
   first_parts (suc n) h =
       ap₂ ◌++◌ (first_parts n (omega arith))
-      (ap (λ (r : Result (List ℕ) Refusal). result_unwrap_or r []) (part_of_sound n (omega arith)) ∙ ap (take 128) (sym (drop-drop (n * 128) 6 dump)))
+      (ap (λ (r : Result (List ℕ) Refusal). result_unwrap_or r []) (part_of_sound n (omega arith))
+      ∙ ap (take 128) (sym (drop-drop (n * 128) 6 dump)))
       ∙ sym (take-add (n * 128) 128 (drop 6 dump))
       ∙ ap (λ (k : ℕ). take k (drop 6 dump)) (sym (suc-mul n 128))
 

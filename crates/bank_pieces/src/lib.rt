@@ -1,7 +1,7 @@
 // A bank that comes in pieces: the reader takes each piece, reports complete patches as their bytes come, and says at
 // the end whether the dump was sound. Added by us: no Rust file. Each entry is what specs/Pieces says, for every state,
-// every piece and every buffer. Refused with 9 is a reader that has ended, or that no pieces leave so; at the end a dump
-// is refused as any dump is.
+// every piece and every buffer. Refused with 9 is a reader that has ended, or that no pieces leave so; at the end a
+// dump is refused as any dump is.
 #![tactic(auto)]
 
 ghost use Rattle.std.specs.Prelude.{◌≡◌, true, false, ◌+◌, ◌-◌, ◌≤◌, ◌<◌, min, length};

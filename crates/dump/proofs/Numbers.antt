@@ -12,7 +12,8 @@ use Rattle.refusals.specs.declared.Refusal.{Refusal}
 use Rattle.refusals.specs.declared.Refusal.TheVariants.{WrongLength, FrameByte, HighByte, Checksum}
 use Rattle.dump.specs.declared.Form.{Form}
 use Rattle.std.specs.Result.{result_and}
-use Rattle.dump.specs.Dump.{size_of, framed, channel_byte, data_of, sum_byte, largest_of, summed, dump_check, dump_channel}
+use Rattle.dump.specs.Dump.{size_of, framed, channel_byte, data_of, sum_byte, largest_of, summed}
+use Rattle.dump.specs.Dump.{dump_check, dump_channel}
 
 -- what it says of a dump that the check accepts it
 pub record Sound (form : Form) (dump : List ℕ) : Type 0 where

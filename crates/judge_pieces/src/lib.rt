@@ -1,5 +1,5 @@
-// The judge's entries 98 to 9a (hex, docs/ORACLE.md): the crate `bank_pieces`. The reader and the buffer that is lent to
-// it are the register's; no answer writes them.
+// The judge's entries 98 to 9a (hex, docs/ORACLE.md): the crate `bank_pieces`. The reader and the buffer that is lent
+// to it are the register's; no answer writes them.
 #![tactic(auto)]
 
 use bank_pieces::{Receiver, Taken};

@@ -111,7 +111,8 @@ module _ (l : Line) (piece : List ℕ) where
   taken = taken_by answer.answer
 
   -- it reports what its bytes report one by one
-  tells_so : told (accepted (took l.receiver piece l.patch)) ≡ reports (held l) (take (takes count (length piece)) piece)
+  tells_so : told (accepted (took l.receiver piece l.patch))
+      ≡ reports (held l) (take (takes count (length piece)) piece)
   unfolding told took takes completes
   tells_so = elim (dec_lt count 4102) [
     | no e ↦ rw (le-ltb count 4102 (omega arith)) (sym (reports_rest (held l) _ (omega arith)))
@@ -286,8 +287,8 @@ unfolding runs_of run_count
 whole_runs xs e = rw e
 
 -- so the reports are those parts
-pub sound_parts : (patch : List ℕ) → length patch ≡ 128 → (pieces : List (List ℕ)) → validate_of (together pieces) ≡ Ok tt
-    → (given_all (begun patch) pieces).reports ≡ parts_below (together pieces) 32
+pub sound_parts : (patch : List ℕ) → length patch ≡ 128 → (pieces : List (List ℕ))
+    → validate_of (together pieces) ≡ Ok tt → (given_all (begun patch) pieces).reports ≡ parts_below (together pieces) 32
 sound_parts patch w pieces z =
     (any_cut patch w pieces).reported
     ∙ whole_runs (together pieces) ((sound bank_form (together pieces) z).long ∙ size_is)

@@ -111,4 +111,5 @@ pub record Agrees (l : Line) (bytes : List ℕ) : Type 0 where
 -- a bank's own parts, slot by slot
 unfoldable pub parts_below : List ℕ → ℕ → List Report
 parts_below bytes zero = []
-parts_below bytes (suc n) = parts_below bytes n ++ (record { slot = n; bytes = result_unwrap_or (part_of bytes n) [] } ∷ [])
+parts_below bytes (suc n) =
+    parts_below bytes n ++ (record { slot = n; bytes = result_unwrap_or (part_of bytes n) [] } ∷ [])

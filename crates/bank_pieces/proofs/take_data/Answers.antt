@@ -34,10 +34,10 @@ returns c =
     took_whole r piece patch wide c.requires.0 c.requires.1 (128 - place_in r.count)
     _ c.put-2.new.out refl (omega arith) pasted
     (elim c.if-filled-eq0.branch [
-      then-filled-eq0 w ↦
-        let none = w.if-filled-eq0.true in
-        w.sum-is ∙ w.summed_with-sum.ensures
-        ∙ ap (summed_with r.sum) (ap (λ (k : ℕ). take (128 - k) piece) none ∙ whole_is patch piece wide
-        ∙ sym (pasted ∙ ap (λ (k : ℕ). paste patch k piece (128 - k)) none))
-    | else-filled-eq0 w ↦ w.sum-is ∙ w.summed_with-sum-else-filled-eq0.ensures
+      | then-filled-eq0 w ↦
+          let none = w.if-filled-eq0.true in
+          w.sum-is ∙ w.summed_with-sum.ensures
+          ∙ ap (summed_with r.sum) (ap (λ (k : ℕ). take (128 - k) piece) none ∙ whole_is patch piece wide
+          ∙ sym (pasted ∙ ap (λ (k : ℕ). paste patch k piece (128 - k)) none))
+      | else-filled-eq0 w ↦ w.sum-is ∙ w.summed_with-sum-else-filled-eq0.ensures
     ])

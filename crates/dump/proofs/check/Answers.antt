@@ -28,7 +28,8 @@ module _ (form : Form) (six : length form.header ≡ 6) (dump : List ℕ) where
 
 pub returns-then-dump-lt8 : goal.returns-then-dump-lt8
 returns-then-dump-lt8 c =
-    is_short c.args.form c.args.dump.now (λ e. let size = size_is c.args.form (omega arith) in elim c.then-dump-lt8.branch [
+    let size = size_is c.args.form (omega arith) in
+    is_short c.args.form c.args.dump.now (λ e. elim c.then-dump-lt8.branch [
       | then-dump-lt8-via-then-dump-lt8 w ↦ omega (arith, size, e)
       | then-dump-lt8-via-else-dump-lt8+then-dump-form w ↦ w.if-dump-form.true (omega (arith, size, e))
     ])
