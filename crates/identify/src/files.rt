@@ -70,6 +70,7 @@ pub fn drain<R: Read>(from: &mut R) {
 
 // A walk through a file: the window, the place in the file of the first byte that waits, whether that byte goes on
 // with a message that is no dump, how many bytes before it begin no message, and whether the walk is over.
+#[derive(Drop)]
 struct Walk<'a> {
     to: Streams,
     name: &'a [u8],
