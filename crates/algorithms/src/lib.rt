@@ -283,7 +283,7 @@ pub fn six_bytes(part: &[u8]) -> [u8; 6]
 
 // A row of a lent table: 2 for operators other than 4 or 6, a table that is empty, not of whole rows or above 32 of
 // them, and a row number past it.
-#[tactic(auto, using(crate::proofs::Tables::counted_some), unfolding(crate::specs::Table::tabled, crate::specs::Table::row_of))]
+#[tactic(auto, unfolding(crate::specs::Table::tabled, crate::specs::Table::row_of))]
 fn row_of(operators: usize, table: &[u8], row: usize) -> Result<[u8; 6], Refusal>
     ensures { result ≡ cond (tabled operators table.now row)
         (Ok (row_of operators table.now row)) (Err WrongTable) }
