@@ -226,7 +226,7 @@ fn compile_calls(row: &[u8]) -> Result<Plan, Refusal>
     let mut flags = [true, false, false, false];
     let mut plan = no_plan();
     let mut first = 0u8;
-    // Stays (d): a call takes one to three operators, so that no `for` goes from call to call.
+    // Stays: (d) a call takes one to three operators, so no `for` goes from call to call.
     while (first as usize) < row.len() {
         let os = &row[first as usize..];
         let Some(n) = rendered_length(row.len(), os) else {
