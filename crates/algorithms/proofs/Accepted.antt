@@ -113,8 +113,15 @@ call_sound operators first o os c e h l =
       input = call_input first n (o ∷ os) c e;
       output = call_output first n (o ∷ os) c e;
       within = rw e (omega (arith, rendered_within operators o os));
-      chain = rw e (⊎_elim inl (λ x. inr (record { six = x.1; few = x.2; fed = fed_source o n (n - 1) os (omega arith) x.0; adds = x.3 }))
-          (known_cases operators n (modulation (take n (o ∷ os))) (adding (get_or (o ∷ os) (n - 1) 0)) (renders_call operators (o ∷ os) h)));
+      chain = rw e (⊎_elim inl (λ x. inr (record {
+        six = x.1;
+        few = x.2;
+        fed = fed_source o n (n - 1) os (omega arith)
+            x.0;
+        adds = x.3;
+      }))
+          (known_cases operators n (modulation (take n (o ∷ os))) (adding (get_or (o ∷ os) (n - 1) 0)) (renders_call
+          operators (o ∷ os) h)));
     }
 
 -- ---- the walk
@@ -150,7 +157,11 @@ good_start operators t = record {
 passes_safe : (r : ℕ → Bool) (c : Call) → unready r c ≡ false
     → (reading c ≡ true → r c.input ≡ true) × (c.add ≡ true → r c.output ≡ true)
 unfolding unready
-passes_safe r c e = (λ z. pick₁ (reading c) (r c.input) (c.add && not (r c.output)) z e, λ z. pick₂ (reading c && not (r c.input)) c.add (r c.output) z e)
+passes_safe r c e = (
+  λ z. pick₁ (reading c) (r c.input) (c.add && not (r c.output)) z e,
+  λ z. pick₂ (reading c && not
+      (r c.input)) c.add (r c.output) z e,
+)
   where
     pick₁ : (a b x : Bool) → a ≡ true → ((a && not b) || x) ≡ false → b ≡ true
     pick₁ true true x z e = refl
@@ -200,7 +211,8 @@ module _ (cs : List Call) (m : ℕ) (c : Call) where
         }
 
 -- one call more
-good_more : (operators first n : ℕ) (t : List ℕ) (p : Plan) (c : Call) → operators ≤ 6 → first < operators → c.first ≡ first
+good_more : (operators first n : ℕ) (t : List ℕ) (p : Plan) (c : Call) → operators ≤ 6 → first < operators
+    → c.first ≡ first
     → c.n ≡ n → 1 ≤ n → Sound operators c → Made operators t c
     → unready (ready p.calls p.count) c ≡ false → Good operators first t p
     → Good operators (first + n) t (extended p c)
@@ -287,7 +299,8 @@ module _ (operators : ℕ) (row : List ℕ) (p : Plan) (e : planned operators ro
   planned_good = pick (counted operators) refl e
     where
       good : IfOk (plan_from operators 0 0 no_plan t) (Good operators (length t) t)
-      good = walk_good operators _ accepted_six (omega (arith, length-take operators row)) t t 0 0 no_plan refl (omega arith) (omega arith) (good_start operators t)
+      good = walk_good operators _ accepted_six (omega (arith, length-take operators row)) t t 0 0 no_plan refl (omega
+          arith) (omega arith) (good_start operators t)
 
       pick : (b : Bool) → counted operators ≡ b → cond b (plan_from operators 0 0 no_plan t) (Err WrongTable) ≡ Ok p
           → Good operators (length t) t p
@@ -316,7 +329,8 @@ module _ (operators : ℕ) (row : List ℕ) (p : Plan) (e : planned operators ro
   -- the calls' spans cover the operators, in row order
   pub accepted_covering : length row ≡ 6 → Covering p.calls p.count operators
   accepted_covering l =
-      subst (Covering p.calls p.count) (length-take-le operators row (omega (arith, accepted_six))) planned_good.covering
+      subst (Covering p.calls p.count) (length-take-le operators row (omega (arith, accepted_six)))
+      planned_good.covering
 
 -- ---- each operator is in exactly one call
 

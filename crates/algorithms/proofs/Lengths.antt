@@ -68,7 +68,8 @@ module _ (os : List ℕ) (i : ℕ) where
     pub more_at : not (unmet (get_or os i 0) (get_or os (i + 1) 0 ∷ []) || adding (get_or os i 0)) ≡ true
         → grown (drop i os) ≡ suc (grown (drop (i + 1) os))
     more_at e =
-        let back : drop (i + 1) os ≡ get_or os (i + 1) 0 ∷ drop (suc (suc i)) os = rw (add-one i) (drop-cons os (suc i) 0 (omega arith)) in
+        let back : drop (i + 1) os ≡ get_or os (i + 1) 0 ∷ drop (suc (suc i)) os = rw (add-one i) (drop-cons os (suc
+        i) 0 (omega arith)) in
         rw (two_at, back) (grown_more (get_or os i 0) (get_or os (i + 1) 0) (drop (suc (suc i)) os) e)
 
 -- ---- a chain's length
@@ -136,7 +137,8 @@ few_one operators os h = sym (known_few operators (chained os) _ _ (ne_eqb opera
 -- what a list's first operators are modulated by
 pub modulation_first : (o n : ℕ) (os : List ℕ) → 1 ≤ n
     → modulation (take n (o ∷ os))
-    ≡ cond (eqb (source o) 0) unmodulated (cond (eqb (source o) 3) (origin_from 0 originless (take n (o ∷ os))) external)
+    ≡ cond (eqb (source o) 0) unmodulated (cond (eqb (source o) 3) (origin_from 0 originless (take n (o ∷ os)))
+    external)
 unfolding modulation
 modulation_first o n os h = rw (get_or-take n (o ∷ os) 0 0 h)
 
@@ -145,7 +147,9 @@ unfolding call_length renders known
 dry_one operators o os h =
     rw (modulation_first o (chained (o ∷ os)) os (chained_some o os), ne_eqb (source o) 3 h) (pick (eqb (source o) 0))
   where
-    pick : (b : Bool) → 1 ≡ cond (known operators (chained (o ∷ os)) (cond b unmodulated external) (adding (get_or (o ∷ os) (chained (o ∷ os) - 1) 0))) (chained (o ∷ os)) 1
+    pick : (b : Bool)
+        → 1 ≡ cond (known operators (chained (o ∷ os)) (cond b unmodulated external) (adding (get_or (o ∷ os) (chained
+        (o ∷ os) - 1) 0))) (chained (o ∷ os)) 1
     pick true = sym (one_or_one (chained (o ∷ os)))
     pick false = sym (one_or_one (chained (o ∷ os)))
 
@@ -187,7 +191,8 @@ known_one operators o os =
     pick : (b d : Bool) → eqb (source o) 0 ≡ b → eqb (source o) 3 ≡ d
         → known operators 1 (cond b unmodulated (cond d (cond (flagged o) (feedback 0) originless) external)) (adding o)
         ≡ cond d (flagged o) true
-    pick true true e f = let z : ◌≡◌ {A = ℕ} 0 3 = sym (eqb-true (source o) 0 e) ∙ eqb-true (source o) 3 f in absurd (omega arith)
+    pick true true e f = let z : ◌≡◌ {A = ℕ} 0 3 = sym (eqb-true (source o) 0 e) ∙ eqb-true (source o) 3 f in absurd
+        (omega arith)
     pick true false e f = refl
     pick false true e f = one_known operators (adding o) (flagged o)
     pick false false e f = refl
@@ -222,7 +227,10 @@ fed_length (suc (suc (suc zero))) o (p ∷ []) e h k = absurd (omega arith)
 fed_length (suc (suc (suc zero))) o (p ∷ q ∷ os) e h k =
     rw (fed o 3 (p ∷ q ∷ os) h e, three_known (adding q) (flagged o) (flagged p) (flagged q))
 fed_length (suc (suc (suc (suc n)))) o os e h k =
-    rw (known_many (suc (suc (suc (suc n)))) (modulation (take (suc (suc (suc (suc n)))) (o ∷ os))) _ (omega arith), lt-leb (suc (suc (suc (suc n)))) 3 (omega arith))
+    rw (
+      known_many (suc (suc (suc (suc n)))) (modulation (take (suc (suc (suc (suc n)))) (o ∷ os))) _ (omega arith),
+      lt-leb (suc (suc (suc (suc n)))) 3 (omega arith),
+    )
 
 -- a call of feedback, of six operators, is a chain where it is one of at most 3, and its last operator adds and is the
 -- origin
@@ -236,13 +244,15 @@ module _ (os : List ℕ) (h : 0 < length os) where
 
   pub fed_at : (operators : ℕ) → operators ≡ 6 → source (get_or os 0 0) ≡ 3
       → call_length operators os
-      ≡ cond (leb (chained os) 3 && (adding (get_or os (chained os - 1) 0) && flagged (get_or os (chained os - 1) 0))) (chained os) 1
+      ≡ cond (leb (chained os) 3 && (adding (get_or os (chained os - 1) 0) && flagged (get_or os (chained os - 1) 0)))
+      (chained os) 1
   unfolding call_length
   fed_at operators e z = rw e (go os h z)
     where
       go : (r : List ℕ) → 0 < length r → source (get_or r 0 0) ≡ 3
           → cond (renders 6 r (chained r)) (chained r) 1
-          ≡ cond (leb (chained r) 3 && (adding (get_or r (chained r - 1) 0) && flagged (get_or r (chained r - 1) 0))) (chained r) 1
+          ≡ cond (leb (chained r) 3 && (adding (get_or r (chained r - 1) 0) && flagged (get_or r (chained r - 1) 0)))
+          (chained r) 1
       go [] h z = absurd (omega arith)
       go (o ∷ r) h z = fed_length (chained (o ∷ r)) o r z (chained_some o r) (chained_within o r)
 
@@ -262,7 +272,8 @@ several_rendered operators os h = pick (renders operators os (chained os)) refl 
 pub rendered_within : (operators o : ℕ) (os : List ℕ) → rendered operators (o ∷ os) ≤ suc (length os)
 unfolding rendered call_length
 rendered_within operators o os =
-    let k = cond_most (renders operators (o ∷ os) (chained (o ∷ os))) (chained (o ∷ os)) 1 (suc (length os)) (chained_within o os) (omega arith) in
+    let k = cond_most (renders operators (o ∷ os) (chained (o ∷ os))) (chained (o ∷ os)) 1 (suc (length os))
+    (chained_within o os) (omega arith) in
     cond_most (renders operators (o ∷ os) (call_length operators (o ∷ os))) (call_length operators (o ∷ os)) 0
     (suc (length os)) k (omega arith)
 
@@ -299,7 +310,8 @@ pub some_rendered : (operators : ℕ) (os : List ℕ) → 0 < length os → (n :
     ≡ cond (eqb n 1 && (eqb (source (get_or os 0 0)) 3 && not (flagged (get_or os 0 0)))) None (Some n)
 unfolding some
 some_rendered operators [] h n e = absurd (omega arith)
-some_rendered operators (o ∷ os) h n e = rw (rendered_as operators o os n e) (pick (eqb n 1 && (eqb (source o) 3 && not (flagged o))))
+some_rendered operators (o ∷ os) h n e = rw (rendered_as operators o os n e) (pick (eqb n 1 && (eqb (source o) 3 &&
+    not (flagged o))))
   where
     pick : (b : Bool) → cond (eqb (cond b 0 n) 0) None (Some (cond b 0 n)) ≡ cond b None (Some n)
     pick true = refl

@@ -73,7 +73,13 @@ same_plan_equal p q e =
 
 pub same_call_self : (c : Call) → same_call c c ≡ true
 unfolding same_call
-same_call_self c = rw (eq-eqb c.first c.first refl, eq-eqb c.n c.n refl, eq-eqb c.input c.input refl, eq-eqb c.output c.output refl) (beq_same c.add)
+same_call_self c = rw (
+  eq-eqb c.first c.first refl,
+  eq-eqb c.n c.n refl,
+  eq-eqb c.input c.input refl,
+  eq-eqb c.output
+      c.output refl,
+) (beq_same c.add)
 
 same_calls_self : (cs : List Call) → same_calls cs cs ≡ true
 unfolding same_calls

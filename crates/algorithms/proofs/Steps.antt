@@ -58,7 +58,8 @@ module _ (operators first : ℕ) (os : List ℕ) (some : 0 < length os) (p : Pla
   unfolding plan_from
   lacking_at e = go os some e
     where
-      go : (r : List ℕ) → 0 < length r → rendered operators r ≡ 0 → Err (NoRenderer first) ≡ plan_from operators 0 first p r
+      go : (r : List ℕ) → 0 < length r → rendered operators r ≡ 0
+          → Err (NoRenderer first) ≡ plan_from operators 0 first p r
       go [] h e = absurd (omega arith)
       go (o ∷ r) h e = rw e refl
 
@@ -86,7 +87,8 @@ module _ (operators first : ℕ) (os : List ℕ) (some : 0 < length os) (p : Pla
         go (o ∷ r) k e d =
             let m : suc first + (n - 1) ≡ first + n = omega arith in
             let g : drop n (o ∷ r) ≡ drop (n - 1) r = behind n h in
-            rw (← e, ne_eqb n 0 (omega arith), ← d, z) (sym (inside operators (n - 1) (suc first) (extended p c) r ∙ rw m (sym (ap (λ (s : List ℕ). plan_from operators 0 (first + n) (extended p c) s) g))))
+            rw (← e, ne_eqb n 0 (omega arith), ← d, z) (sym (inside operators (n - 1) (suc first) (extended p c) r ∙
+            rw m (sym (ap (λ (s : List ℕ). plan_from operators 0 (first + n) (extended p c) s) g))))
           where
             behind : (i : ℕ) → 1 ≤ i → drop i (o ∷ r) ≡ drop (i - 1) r
             behind zero l = absurd (omega arith)

@@ -226,7 +226,7 @@ fn compile_calls(row: &[u8]) -> Result<Plan, Refusal>
     let mut flags = [true, false, false, false];
     let mut plan = no_plan();
     let mut first = 0u8;
-    // Stays (d): a call takes one to three operators, so that no `for` goes from call to call.
+    // Stays: (d) a call takes one to three operators, so no `for` goes from call to call.
     while (first as usize) < row.len() {
         let os = &row[first as usize..];
         let Some(n) = rendered_length(row.len(), os) else {
@@ -283,7 +283,7 @@ pub fn six_bytes(part: &[u8]) -> [u8; 6]
 
 // A row of a lent table: 2 for operators other than 4 or 6, a table that is empty, not of whole rows or above 32 of
 // them, and a row number past it.
-#[tactic(auto, using(crate::proofs::Tables::counted_some), unfolding(crate::specs::Table::tabled, crate::specs::Table::row_of))]
+#[tactic(auto, unfolding(crate::specs::Table::tabled, crate::specs::Table::row_of))]
 fn row_of(operators: usize, table: &[u8], row: usize) -> Result<[u8; 6], Refusal>
     ensures { result ≡ cond (tabled operators table.now row)
         (Ok (row_of operators table.now row)) (Err WrongTable) }

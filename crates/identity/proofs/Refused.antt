@@ -49,7 +49,7 @@ is_true false t = absurd t
 
 row_accepted_lem : (n a : ℕ) → T (rows_accepted n) → a < n → T (is_ok (compiled 6 six_operators a))
 unfolding rows_accepted
-row_accepted_lem zero a t h = omega arith
+row_accepted_lem zero a t h = let z : ⊥ = omega arith in absurd z
 row_accepted_lem (suc n) a t h =
     let head = is_ok (compiled 6 six_operators n) in
     go (eqb a n) refl (and_l head (rows_accepted n) t)

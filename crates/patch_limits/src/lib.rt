@@ -90,6 +90,9 @@ fn operators_fit(op: [Operator; 6]) -> bool
         & operator_fits(op[5])
 }
 
+// Whether 6 accepts a patch. It stays a function of its own: where a branch on it is compiled with it, the fields are
+// tested one by one, and not sixteen at a time.
+#[inline(never)]
 pub fn patch_fits(p: Patch) -> bool
     ensures { result ≡ patch_fits p }
 {

@@ -41,7 +41,8 @@ pub four_pieces : {a b c d : List ℕ} (t p q r s : List ℕ) → a ≡ t ++ p �
 four_pieces {a} {b} {c} t p q r s e f g h = two_pieces t p (q ++ (r ++ s)) e (three_pieces a q r s f g h)
 
 -- the element that a loop is at
-pub call_at : {b : List ℕ} {c : Call} (a : List ℕ) (l : List Call) (k : ℕ) → c ≡ get_or l k no_call → b ≡ a ++ call_text c
+pub call_at : {b : List ℕ} {c : Call} (a : List ℕ) (l : List Call) (k : ℕ) → c ≡ get_or l k no_call
+    → b ≡ a ++ call_text c
     → b ≡ a ++ call_text (get_or l k no_call)
 call_at a l k e f = rw (← e) f
 
@@ -59,7 +60,9 @@ unfolding bytes_text
 bytes_append [] ys = refl
 bytes_append (x ∷ xs) ys = rw (bytes_append xs ys)
 
-pub bytes_more : (l : List ℕ) (k : ℕ) → k < length l → bytes_text (take (k + 1) l) ≡ bytes_text (take k l) ++ (32 ∷ hex_digit (get_or l k 0 / 16) ∷ hex_digit (get_or l k 0) ∷ [])
+pub bytes_more : (l : List ℕ) (k : ℕ) → k < length l
+    → bytes_text (take (k + 1) l) ≡ bytes_text (take k l) ++ (32 ∷ hex_digit (get_or l k 0 / 16) ∷ hex_digit (get_or l
+    k 0) ∷ [])
 unfolding bytes_text
 bytes_more l k h = rw (add-one, take-suc l k 0 h) (bytes_append (take k l) (get_or l k 0 ∷ []))
 
@@ -77,7 +80,13 @@ bytes_size (x ∷ l) = omega (arith, bytes_size l)
 pub row_so_far : {t : List ℕ} (before bytes : List ℕ) (k : ℕ) → k ≤ length bytes
     → t ≡ before ++ (word_row ++ bytes_text (take k bytes)) → length t ≡ length before + 3 + 3 * k
 row_so_far before bytes k h e =
-    omega (arith, longer before (word_row ++ bytes_text (take k bytes)) e, bytes_size (take k bytes), length-take-le k bytes h)
+    omega (
+      arith,
+      longer before (word_row ++ bytes_text (take k bytes)) e,
+      bytes_size (take k bytes),
+      length-take-le k
+          bytes h,
+    )
 
 pub row_more : {a b c d : List ℕ} (t l : List ℕ) (k : ℕ) → k < length l → a ≡ t ++ (word_row ++ bytes_text (take k l))
     → b ≡ a ++ (32 ∷ []) → c ≡ b ++ (hex_digit (get_or l k 0 / 16) ∷ []) → d ≡ c ++ (hex_digit (get_or l k 0) ∷ [])
@@ -87,7 +96,8 @@ row_more t l k h e₁ e₂ e₃ e₄ =
     let x = hex_digit (get_or l k 0 / 16) in
     let y = hex_digit (get_or l k 0) in
     two_pieces t (p ++ (32 ∷ [])) (x ∷ y ∷ []) (two_pieces t p (32 ∷ []) e₁ e₂) (two_pieces _ (x ∷ []) (y ∷ []) e₃ e₄)
-    ∙ rw (bytes_more l k h) (ap (λ (r : List ℕ). t ++ r) (append_assoc p (32 ∷ []) (x ∷ y ∷ []) ∙ append_assoc word_row (bytes_text (take k l)) (32 ∷ x ∷ y ∷ [])))
+    ∙ rw (bytes_more l k h) (ap (λ (r : List ℕ). t ++ r) (append_assoc p (32 ∷ []) (x ∷ y ∷ []) ∙ append_assoc
+    word_row (bytes_text (take k l)) (32 ∷ x ∷ y ∷ [])))
 
 pub row_done : {a b : List ℕ} (t l : List ℕ) (k : ℕ) → length l ≤ k → a ≡ t ++ (word_row ++ bytes_text (take k l))
     → b ≡ a ++ (10 ∷ []) → b ≡ t ++ row_text l
@@ -99,12 +109,14 @@ row_done t l k h e f =
 pub calls_more : (l : List Call) (k : ℕ) → k < length l
     → calls_text (take (k + 1) l) ≡ calls_text (take k l) ++ call_text (get_or l k no_call)
 unfolding calls_text
-calls_more l k h = rw (add-one, take-suc l k no_call h) (calls_append (take k l) (get_or l k no_call ∷ []) ∙ rw append-nil)
+calls_more l k h = rw (add-one, take-suc l k no_call h) (calls_append (take k l) (get_or l k no_call ∷ []) ∙ rw
+    append-nil)
 
 -- a line for each call
 pub call_more : {a b : List ℕ} (t : List ℕ) (l : List Call) (k : ℕ) → k < length l → a ≡ t ++ calls_text (take k l)
     → b ≡ a ++ call_text (get_or l k no_call) → b ≡ t ++ calls_text (take (k + 1) l)
-call_more t l k h e f = rw (calls_more l k h) (two_pieces t (calls_text (take k l)) (call_text (get_or l k no_call)) e f)
+call_more t l k h e f = rw (calls_more l k h) (two_pieces t (calls_text (take k l)) (call_text (get_or l k no_call)) e
+    f)
 
 -- ---- how long they are
 
@@ -191,7 +203,16 @@ text_size bytes = go (planned (length bytes) (six bytes)) refl
     go : (r : Result Plan Refusal) → planned (length bytes) (six bytes) ≡ r → length (planned_text bytes r) ≤ 160
     go (Ok p) e =
         let k = length-take p.count p.calls in
-        simp length-append (omega (arith, row_size bytes, row_most bytes p e, calls_most bytes p e, count_size p.count, calls_size (take p.count p.calls), k))
+        simp length-append (omega (
+          arith,
+          row_size bytes,
+          row_most bytes p e,
+          calls_most bytes p e,
+          count_size
+              p.count,
+          calls_size (take p.count p.calls),
+          k,
+        ))
     go (Err r) e = omega (arith, at_size r)
 
 -- an accepted row is short, and so is its plan
@@ -201,7 +222,8 @@ few bytes (Ok p) e = (row_most bytes p (sym e), calls_most bytes p (sym e))
 few bytes (Err r) e = tt
 
 -- what was printed lies within the buffer, and the part of the buffer that holds it is as long as it
-module _ (before after bytes : List ℕ) (r : ℕ) (l : length before ≡ 160) (w : Written before 0 (plan_text bytes) after r) where
+module _ (before after bytes : List ℕ) (r : ℕ) (l : length before ≡ 160) (w : Written before 0 (plan_text bytes) after
+    r) where
   pub printed_within : r ≤ length after
   printed_within =
       let k : length after ≡ 160 = ap length w.buffer ∙ length-sets before 0 (plan_text bytes) ∙ l in

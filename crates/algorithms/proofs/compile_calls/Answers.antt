@@ -29,11 +29,17 @@ record Found (first n : ℕ) (row : List ℕ) : Type 0 where
 found : {r : Option ℕ} (first n : ℕ) (row : List ℕ) → first < length row
     → r ≡ some (rendered (length row) (take (length row - first) (drop first row))) → r ≡ Some n → Found first n row
 found first n row h e z =
-    let s = some_is (rendered (length row) (drop first row)) n (sym z ∙ e ∙ ap (λ (l : List ℕ). some (rendered (length row) l)) (from_on first row)) in
+    let s = some_is (rendered (length row) (drop first row)) n (sym z ∙ e ∙ ap (λ (l : List ℕ). some (rendered (length
+    row) l)) (from_on first row)) in
     record {
       is = s.0;
       one = s.1;
-      within = omega (arith, s.0, rendered_most (length row) (drop first row) (omega (arith, length-drop first row)), length-drop first row);
+      within = omega (
+        arith,
+        s.0,
+        rendered_most (length row) (drop first row) (omega (arith, length-drop first row)),
+        length-drop first row,
+      );
     }
 
 called : {c : Call} (first n : ℕ) (row : List ℕ) → c ≡ call_of first n (take (length row - first) (drop first row))
@@ -61,41 +67,56 @@ loop-first-init c = rw c.no_plan-plan.ensures (record {
 
 pub returns-in_default : goal.returns-in_default
 returns-in_default c =
-    let e = sym c.in_default.is ∙ c.rendered_length.ensures ∙ ap (λ (l : List ℕ). some (rendered (length c.args.row.now) l)) (from_on c.loop-first.first c.args.row.now) in
-    lacking_at _ _ _ (omega (arith, length-drop c.loop-first.first c.args.row.now)) c.loop-first.plan (none_is _ e) ∙ c.loop-first.invariant.rest
+    let e = sym c.in_default.is ∙ c.rendered_length.ensures ∙ ap (λ (l : List ℕ). some (rendered (length
+    c.args.row.now) l)) (from_on c.loop-first.first c.args.row.now) in
+    lacking_at _ _ _ (omega (arith, length-drop c.loop-first.first c.args.row.now)) c.loop-first.plan (none_is _ e) ∙
+    c.loop-first.invariant.rest
 
 pub call_of-c-requires : goal.call_of-c-requires
 call_of-c-requires c =
-    let f = found c.loop-first.first c.in-Some.n c.args.row.now c.loop-first-test.true c.rendered_length.ensures c.in-Some.is in
-    (f.one, rw (from_on c.loop-first.first c.args.row.now) (omega (arith, length-drop c.loop-first.first c.args.row.now)), omega arith)
+    let f = found c.loop-first.first c.in-Some.n c.args.row.now c.loop-first-test.true c.rendered_length.ensures
+    c.in-Some.is in (
+      f.one,
+      rw (from_on c.loop-first.first c.args.row.now) (omega (
+        arith,
+        length-drop c.loop-first.first
+            c.args.row.now,
+      )),
+      omega arith,
+    )
 
 pub is_unready-requires : goal.is_unready-requires
 is_unready-requires c = (call_input _ _ _ _ c.call_of-c.ensures, call_output _ _ _ _ c.call_of-c.ensures)
 
 pub returns-then-is_unready : goal.returns-then-is_unready
 returns-then-is_unready c =
-    let f = found c.loop-first.first c.in-Some.n c.args.row.now c.loop-first-test.true c.rendered_length.ensures c.in-Some.is in
+    let f = found c.loop-first.first c.in-Some.n c.args.row.now c.loop-first-test.true c.rendered_length.ensures
+    c.in-Some.is in
     let e = called c.loop-first.first c.in-Some.n c.args.row.now c.call_of-c.ensures in
     let t = flags_test c.loop-first.flags _ _ _ _ _ _ c.is_unready.ensures e c.loop-first.invariant.shown in
-    unready_at _ _ _ (omega (arith, length-drop c.loop-first.first c.args.row.now)) c.loop-first.plan _ f.is f.one _ e (sym t ∙ c.if-is_unready.true) ∙ c.loop-first.invariant.rest
+    unready_at _ _ _ (omega (arith, length-drop c.loop-first.first c.args.row.now)) c.loop-first.plan _ f.is f.one _ e
+    (sym t ∙ c.if-is_unready.true) ∙ c.loop-first.invariant.rest
 
 pub bounds-flags-c : goal.bounds-flags-c
 bounds-flags-c c = call_output _ _ _ _ c.call_of-c.ensures
 
 pub overflow_add-first : goal.overflow_add-first
 overflow_add-first c =
-    let f = found c.loop-first.first c.in-Some.n c.args.row.now c.loop-first-test.true c.rendered_length.ensures c.in-Some.is in
+    let f = found c.loop-first.first c.in-Some.n c.args.row.now c.loop-first-test.true c.rendered_length.ensures
+    c.in-Some.is in
     omega (arith, called_n _ _ _ c.call_of-c.ensures)
 
 pub loop-first-smaller : goal.loop-first-smaller
 loop-first-smaller c =
-    let f = found c.loop-first.first c.in-Some.n c.args.row.now c.loop-first-test.true c.rendered_length.ensures c.in-Some.is in
+    let f = found c.loop-first.first c.in-Some.n c.args.row.now c.loop-first-test.true c.rendered_length.ensures
+    c.in-Some.is in
     omega (arith, called_n _ _ _ c.call_of-c.ensures)
 
 pub loop-first-preserved : goal.loop-first-preserved
 unfolding extended
 loop-first-preserved c =
-    let f = found c.loop-first.first c.in-Some.n c.args.row.now c.loop-first-test.true c.rendered_length.ensures c.in-Some.is in
+    let f = found c.loop-first.first c.in-Some.n c.args.row.now c.loop-first-test.true c.rendered_length.ensures
+    c.in-Some.is in
     let e = called c.loop-first.first c.in-Some.n c.args.row.now c.call_of-c.ensures in
     let m = called_n _ _ _ e in
     let t = flags_test c.loop-first.flags _ _ _ _ _ _ c.is_unready.ensures e c.loop-first.invariant.shown in
@@ -109,7 +130,8 @@ loop-first-preserved c =
           (sym t ∙ c.if-is_unready.false) c.loop-first.invariant.shown;
       rest =
           next_at _ c.loop-first.first _ c.in-Some.n _ c.args.row.now m
-          (step_at _ _ _ (omega (arith, length-drop c.loop-first.first c.args.row.now)) c.loop-first.plan _ f.is f.one _ e (sym t ∙ c.if-is_unready.false) ∙ c.loop-first.invariant.rest);
+          (step_at _ _ _ (omega (arith, length-drop c.loop-first.first c.args.row.now)) c.loop-first.plan _ f.is f.one
+          _ e (sym t ∙ c.if-is_unready.false) ∙ c.loop-first.invariant.rest);
     }
 
 pub returns : goal.returns

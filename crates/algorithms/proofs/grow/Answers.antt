@@ -22,14 +22,18 @@ test_at os pair i j z x y e = rw (← z, ← y, sym (ap (λ (k : ℕ). get_or os
 
 pub returns-then-not-grows : goal.returns-then-not-grows
 returns-then-not-grows c =
-    let h = window_more c.args.os.now c.loop-pair.pair-iterator c.next.new.self _ _ c.in-Some.is c.next.ensures.steps (search rules) (search rules) (search rules) in
-    let t = test_at c.args.os.now c.in-Some.pair.now _ c.loop-pair.links (omega arith) (h.3 0 0 (search rules)) (h.3 1 0 (search rules)) c.grows.ensures in
+    let h = window_more c.args.os.now c.loop-pair.pair-iterator c.next.new.self _ _ c.in-Some.is c.next.ensures.steps
+    (search rules) (search rules) (search rules) in
+    let t = test_at c.args.os.now c.in-Some.pair.now _ c.loop-pair.links (omega arith) (h.3 0 0 (search rules)) (h.3 1
+    0 (search rules)) c.grows.ensures in
     omega (arith, end_at c.args.os.now c.loop-pair.links (omega arith) (t ∙ c.if-not-grows.true))
 
 pub loop-pair-preserved : goal.loop-pair-preserved
 loop-pair-preserved c =
-    let h = window_more c.args.os.now c.loop-pair.pair-iterator c.next.new.self _ _ c.in-Some.is c.next.ensures.steps (search rules) (search rules) (search rules) in
-    let t = test_at c.args.os.now c.in-Some.pair.now _ c.loop-pair.links (omega arith) (h.3 0 0 (search rules)) (h.3 1 0 (search rules)) c.grows.ensures in
+    let h = window_more c.args.os.now c.loop-pair.pair-iterator c.next.new.self _ _ c.in-Some.is c.next.ensures.steps
+    (search rules) (search rules) (search rules) in
+    let t = test_at c.args.os.now c.in-Some.pair.now _ c.loop-pair.links (omega arith) (h.3 0 0 (search rules)) (h.3 1
+    0 (search rules)) c.grows.ensures in
     record {
       two = search rules;
       within = omega arith;

@@ -9,13 +9,18 @@ use Rattle.plan_text.proofs.Pieces.{stored, text_size, few}
 use Rattle.plan_text.proofs.print.Goals as goal
 
 pub push_planned-requires : goal.push_planned-requires
-push_planned-requires c = (c.new-text.ensures, few c.args.bytes.now _ (c.compile_row-planned.ensures ∙ ap (planned (length c.args.bytes.now)) c.six_bytes.ensures))
+push_planned-requires c = (
+  c.new-text.ensures,
+  few c.args.bytes.now _ (c.compile_row-planned.ensures ∙ ap (planned
+      (length c.args.bytes.now)) c.six_bytes.ensures),
+)
 
 pub returns : goal.returns
 unfolding plan_text
 returns c =
     let e = c.compile_row-planned.ensures ∙ ap (planned (length c.args.bytes.now)) c.six_bytes.ensures in
-    let t : c.push_planned.new.text.bytes ≡ plan_text c.args.bytes.now = c.push_planned.ensures ∙ ap (planned_text c.args.bytes.now) e in
+    let t : c.push_planned.new.text.bytes ≡ plan_text c.args.bytes.now = c.push_planned.ensures ∙ ap (planned_text
+    c.args.bytes.now) e in
     let s = text_size c.args.bytes.now in
     let l : length c.args.out.now ≡ 160 = search rules in
     let n : c.len-n.result ≡ length (plan_text c.args.bytes.now) = c.len-n.ensures.value ∙ ap length t in

@@ -15,7 +15,13 @@ loop-call-init c = sym (append-nil _)
 pub push_call-requires : goal.push_call-requires
 push_call-requires c =
     let n = longer c.args.text.now.bytes _ c.loop-call.invariant in
-    omega (arith, calls_size (take c.loop-call.call-index c.args.calls.now), length-take-le c.loop-call.call-index c.args.calls.now (omega arith))
+    omega (
+      arith,
+      calls_size (take c.loop-call.call-index c.args.calls.now),
+      length-take-le c.loop-call.call-index
+          c.args.calls.now (omega arith),
+    )
 
 pub loop-call-preserved : goal.loop-call-preserved
-loop-call-preserved c = call_more _ _ _ c.loop-call-test.true c.loop-call.invariant (call_at c.loop-call.text.bytes c.args.calls.now c.loop-call.call-index refl c.push_call.ensures)
+loop-call-preserved c = call_more _ _ _ c.loop-call-test.true c.loop-call.invariant (call_at c.loop-call.text.bytes
+    c.args.calls.now c.loop-call.call-index refl c.push_call.ensures)
