@@ -157,16 +157,12 @@ impl Walk<'_> {
         Ok(())
     }
 
-    // A read where the window is short, or else a step. The walk is over where a read failed.
-    fn turn<R: Read>(&mut self, from: &mut R, buffer: &mut [u8]) -> io::Result<()> {
-        if !is_short(self.window) {
-            return self.step(self.window.waiting(buffer));
-        }
+    // One read more. The walk is over where it failed.
+    fn read<R: Read>(&mut self, from: &mut R, buffer: &mut [u8]) {
         match filled(from, self.to, self.name, buffer, self.window) {
             Some(more) => self.window = more,
             None => self.over = true,
         }
-        Ok(())
     }
 }
 
@@ -197,7 +193,12 @@ pub fn print_file<R: Read>(from: &mut R, to: Streams, name: &[u8]) -> io::Result
         if walk.over {
             break;
         }
-        walk.turn(from, &mut buffer)?;
+        let window = walk.window;
+        if is_short(window) {
+            walk.read(from, &mut buffer);
+        } else {
+            walk.step(window.waiting(&buffer))?;
+        }
     }
     Ok(())
 }

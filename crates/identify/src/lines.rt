@@ -9,9 +9,10 @@ use streams::{Columns, Streams};
 
 // The line of a slot's patch.
 fn print_patch(to: Streams, name: &[u8], slot: usize, patch: Patch) -> io::Result<()> {
+    let letters = patch.name;
     let columns = Columns {
         slot,
-        name: patch.name,
+        name: letters,
     };
     match identity::identify(patch) {
         Ok(identifier) => {
