@@ -14,6 +14,7 @@ use refusals::Refusal;
 // Whether the four rates or levels of an envelope are at most their largest. They are lent: an array of four bytes that
 // is handed over as a value comes in a register, to be taken apart bit by bit, where sixteen bytes can be tested as
 // one.
+// Stays: by `x.iter().all(..)`, here and over the operators, packing takes 80 ns in place of 58, the check 25 of 23.
 pub fn stages_fit(x: &[u8; 4]) -> bool
     ensures { result ≡ stages_fit x.now }
 {
@@ -64,6 +65,7 @@ pub fn modulations_fit(m: ModulationParameters, limit: u8) -> bool
         & (m.pitch_mod_sensitivity <= limit)
 }
 
+// Stays: as `name.iter().all(..)` it got no proof: the search stopped at a limit.
 fn name_fits(name: &[u8; 10]) -> bool
     ensures { result ≡ name_fits name.now }
 {
@@ -79,6 +81,7 @@ fn name_fits(name: &[u8; 10]) -> bool
         & (name[9] <= largest::LETTER)
 }
 
+// Stays: slower by `op.iter().all(..)`, as the stages are.
 fn operators_fit(op: [Operator; 6]) -> bool
     ensures { result ≡ operators_fit op }
 {
