@@ -37,14 +37,7 @@ fn after_block(done: Result<Rendered, Refused<Voice>>) -> Voice {
 }
 
 // The number of an answer: 0 for one that is no refusal.
-fn number_of(done: Result<Voice, Refused<Voice>>) -> u64 {
-    match done {
-        Ok(_) => 0,
-        Err(e) => u64::from(e.refusal.number()),
-    }
-}
-
-fn number_of_block(done: Result<Rendered, Refused<Voice>>) -> u64 {
+fn number_of<T: Copy>(done: Result<T, Refused<Voice>>) -> u64 {
     match done {
         Ok(_) => 0,
         Err(e) => u64::from(e.refusal.number()),
@@ -102,7 +95,7 @@ fn rendered(to: Streams, text: &str, note: f32, block: &mut [f32]) -> io::Result
     line(
         to,
         text,
-        number_of_block(voice_render::render(dirty(), parameters(note), block)),
+        number_of(voice_render::render(dirty(), parameters(note), block)),
     )
 }
 
@@ -178,7 +171,7 @@ fn asked(to: Streams, text: &str, v: Voice, note: f32) -> io::Result<()> {
     line(
         to,
         text,
-        number_of_block(voice_render::render(v, parameters(note), &mut block)),
+        number_of(voice_render::render(v, parameters(note), &mut block)),
     )
 }
 
