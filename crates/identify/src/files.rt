@@ -68,16 +68,23 @@ pub fn drain<R: Read>(from: &mut R) {
     }
 }
 
-// A walk through a file: the window, the place in the file of the first byte that waits, whether that byte goes on
-// with a message that is no dump, how many bytes before it begin no message, and whether the walk is over.
+// What the bytes before a place leave open: a message that is no dump, or so many bytes that begin no message.
+#[derive(Clone, Copy)]
+enum Open {
+    Nothing,
+    Message,
+    Stray(u64),
+}
+
+// A walk through a file: the window, the place in the file of the first byte that waits, what is open there, and
+// whether the walk is over.
 #[derive(Drop)]
 struct Walk<'a> {
     to: Streams,
     name: &'a [u8],
     window: Window,
     place: u64,
-    inside: bool,
-    stray: u64,
+    open: Open,
     over: bool,
 }
 
@@ -88,33 +95,32 @@ impl Walk<'_> {
         self.place = self.place.wrapping_add(size as u64);
     }
 
-    fn tell_stray(&mut self) {
-        let first = self.place.wrapping_sub(self.stray);
-        lines::tell_stray(self.to, self.name, first, self.stray);
-        self.stray = 0;
-    }
-
-    // The end of a file.
-    fn finish(&mut self) {
-        if self.stray > 0 {
-            self.tell_stray();
-        }
-        self.over = true;
+    // The bytes before this place that begin no message.
+    fn tell_stray(&mut self, count: u64) {
+        lines::tell_stray(self.to, self.name, self.place.wrapping_sub(count), count);
     }
 
     fn pass_message(&mut self, bytes: &[u8]) {
-        let cut = messages::message_end(bytes);
-        self.pass(cut.end);
-        self.inside = !cut.over;
+        let end = messages::message_end(bytes);
+        self.pass(end.unwrap_or(bytes.len()));
+        self.open = match end {
+            Some(_) => Open::Nothing,
+            None => Open::Message,
+        };
     }
 
-    fn pass_stray(&mut self, bytes: &[u8]) {
-        let cut = messages::stray_end(bytes);
-        self.pass(cut.end);
-        self.stray = self.stray.wrapping_add(cut.end as u64);
-        if cut.over {
-            self.tell_stray();
-        }
+    fn pass_stray(&mut self, before: u64, bytes: &[u8]) {
+        let end = messages::stray_end(bytes);
+        let size = end.unwrap_or(bytes.len());
+        let count = before.wrapping_add(size as u64);
+        self.pass(size);
+        self.open = match end {
+            Some(_) => {
+                self.tell_stray(count);
+                Open::Nothing
+            }
+            None => Open::Stray(count),
+        };
     }
 
     fn pass_bank(&mut self, bytes: &[u8]) -> io::Result<()> {
@@ -135,24 +141,38 @@ impl Walk<'_> {
     fn refuse_message(&mut self) {
         streams::tell_refusal_at(self.to, self.name, Refusal::WrongLength, self.place);
         self.pass(1);
-        self.inside = true;
+        self.open = Open::Message;
+    }
+
+    // The end of a file.
+    fn finish(&mut self) {
+        if let Open::Stray(count) = self.open {
+            self.tell_stray(count);
+        }
+        self.over = true;
+    }
+
+    // What begins at the first byte that waits.
+    fn pass_next(&mut self, bytes: &[u8]) -> io::Result<()> {
+        match messages::beginning(bytes) {
+            Found::Bank => self.pass_bank(bytes)?,
+            Found::Single => self.pass_single(bytes)?,
+            Found::Message => self.refuse_message(),
+            Found::Nothing => self.pass_stray(0, bytes),
+        }
+        Ok(())
     }
 
     // One step through the bytes that wait.
     fn step(&mut self, bytes: &[u8]) -> io::Result<()> {
         if bytes.is_empty() {
             self.finish();
-        } else if self.inside {
-            self.pass_message(bytes);
-        } else if self.stray > 0 {
-            self.pass_stray(bytes);
-        } else {
-            match messages::beginning(bytes) {
-                Found::Bank => self.pass_bank(bytes)?,
-                Found::Single => self.pass_single(bytes)?,
-                Found::Message => self.refuse_message(),
-                Found::Nothing => self.pass_stray(bytes),
-            }
+            return Ok(());
+        }
+        match self.open {
+            Open::Message => self.pass_message(bytes),
+            Open::Stray(before) => self.pass_stray(before, bytes),
+            Open::Nothing => self.pass_next(bytes)?,
         }
         Ok(())
     }
@@ -185,8 +205,7 @@ pub fn print_file<R: Read>(from: &mut R, to: Streams, name: &[u8]) -> io::Result
         name,
         window,
         place: 0,
-        inside: false,
-        stray: 0,
+        open: Open::Nothing,
         over: false,
     };
     for _ in 0..u64::MAX {

@@ -27,8 +27,13 @@ fn print_patch(to: Streams, name: &[u8], slot: usize, patch: Patch) -> io::Resul
 
 // The line of a packed patch.
 fn print_packed(to: Streams, name: &[u8], slot: usize, bytes: &[u8]) -> io::Result<()> {
-    let patch = patch::unpack(Patch::new(), bytes).unwrap_or(Patch::new());
-    print_patch(to, name, slot, patch)
+    match patch::unpack(Patch::new(), bytes) {
+        Ok(patch) => print_patch(to, name, slot, patch),
+        Err(refused) => {
+            streams::tell_line(to, name, refused.refusal);
+            Ok(())
+        }
+    }
 }
 
 fn print_bank(to: Streams, name: &[u8], dump: &[u8]) -> io::Result<()>

@@ -1,6 +1,4 @@
 // How a file is cut into messages: the one place that knows where a message begins and ends.
-ghost use Rattle.std.specs.Prelude.{◌≤◌, length};
-
 const BEGIN: u8 = 0xF0;
 
 const END: u8 = 0xF7;
@@ -33,46 +31,17 @@ pub fn beginning(bytes: &[u8]) -> Found {
     if as_bank { Found::Bank } else { Found::Message }
 }
 
-// Where a part of a file ends within some bytes, and whether it is over there.
-#[derive(Clone, Copy)]
-pub struct Cut {
-    pub end: usize,
-    pub over: bool,
+// Where a message that began before some bytes is over: behind its last byte, or before the next message. None where it
+// goes on behind them.
+pub fn message_end(bytes: &[u8]) -> Option<usize> {
+    let end = bytes.iter().position(|b| (*b == BEGIN) | (*b == END))?;
+    if bytes[end] == END {
+        return Some(end + 1);
+    }
+    Some(end)
 }
 
-// A message that began before some bytes is over behind its last byte, or before the next message.
-pub fn message_end(bytes: &[u8]) -> Cut
-    ensures { result.end ≤ length bytes.now }
-{
-    for (i, b) in bytes.iter().enumerate() {
-        match *b {
-            BEGIN => return Cut { end: i, over: true },
-            END => {
-                return Cut {
-                    end: i + 1,
-                    over: true,
-                };
-            }
-            _ => {}
-        }
-    }
-    Cut {
-        end: bytes.len(),
-        over: false,
-    }
-}
-
-// Bytes that begin no message are over before the next message.
-pub fn stray_end(bytes: &[u8]) -> Cut
-    ensures { result.end ≤ length bytes.now }
-{
-    for (i, b) in bytes.iter().enumerate() {
-        if *b == BEGIN {
-            return Cut { end: i, over: true };
-        }
-    }
-    Cut {
-        end: bytes.len(),
-        over: false,
-    }
+// Where bytes that begin no message are over: before the next message.
+pub fn stray_end(bytes: &[u8]) -> Option<usize> {
+    bytes.iter().position(|b| *b == BEGIN)
 }
