@@ -2,8 +2,9 @@
 -- past all stages it hands back the level itself. Assumes nothing.
 use mathlib.Core.Path.{◌≡◌, refl}
 use mathlib.Core.Bool.{Bool, true, false}
-use Prim.Native.Nat.{ℕ, zero, suc, ◌*◌}
+use Prim.Native.Nat.{ℕ, zero, suc, ◌-◌, ◌*◌}
 use native.Mathlib.Nat.{le_refl}
+use native.Mathlib.Numerals.{sub-one}
 use borrow.Author.Tests.{le-ltb}
 use lib.Ieee.{Float, nan, inf, fin, lt, le, up, down}
 use Rattle.numbers.specs.F32.{◌⊖◌, ◌⊗◌, decimal}
@@ -21,12 +22,26 @@ lt_self (fin true m e) = le-ltb (m * up e * down e) (m * up e * down e) (le_refl
 lt_self (fin false m e) = le-ltb (m * up e * down e) (m * up e * down e) (le_refl (m * up e * down e))
 
 module _ (reshape : Bool) (e : Envelope) where
+  -- with no call allowed, the gate counts as open
+  pub scrubbed_last : (calls : ℕ) (t gate_duration : Float) → calls ≡ 0
+      → scrubbed calls reshape e t gate_duration ≡ held reshape e t gate_duration
+  unfolding scrubbed
+  scrubbed_last calls t gate_duration z = rw z
+
   -- up to the gate's end
   pub scrubbed_held : (calls : ℕ) (t gate_duration : Float) → lt gate_duration t ≡ false
       → scrubbed calls reshape e t gate_duration ≡ held reshape e t gate_duration
   unfolding scrubbed
   scrubbed_held zero t gate_duration h = refl
   scrubbed_held (suc calls) t gate_duration h = rw h
+
+  -- past it
+  pub scrubbed_released : (calls : ℕ) (t gate_duration : Float) → (calls ≡ 0 → ⊥) → lt gate_duration t ≡ true
+      → scrubbed calls reshape e t gate_duration
+      ≡ released reshape e (t ⊖ gate_duration) (scrubbed (calls - 1) reshape e gate_duration gate_duration)
+  unfolding scrubbed
+  scrubbed_released zero t gate_duration n h = absurd (n refl)
+  scrubbed_released (suc calls) t gate_duration n h = rw (h, sub-one)
 
   module _ (calls : ℕ) (t gate_duration : Float) (past : lt gate_duration t ≡ true) where
     -- one call is enough: the level at the gate's end is that of an open gate

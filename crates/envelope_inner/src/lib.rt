@@ -96,18 +96,29 @@ pub struct Reached {
     pub t: f32,
 }
 
-// The value at a time after the gate opened. Past the gate's end it goes on from the level there. Here a phase of
-// exactly 1 ends the release; past all stages it does not.
+// The value at a time after the gate opened.
 pub fn render_at_sample(envelope: Envelope, reshape: bool, t: f32, gate_duration: f32) -> f32
     ensures { result ≡ scrubbed 1 reshape envelope t gate_duration }
 {
-    let past = t > gate_duration;
-    if past {
+    scrub(envelope, reshape, t, gate_duration, 1)
+}
+
+// The scrub, with so many calls of itself allowed: past the gate's end it asks itself for the level there. It does so
+// once, since the gate's end is not past itself. Here a phase of exactly 1 ends the release; past all stages it does
+// not.
+// Stays: a call of itself with falling calls is the form that docs/RULES.md (Forms) asks of the scrub.
+fn scrub(envelope: Envelope, reshape: bool, t: f32, gate_duration: f32, calls: u32) -> f32
+    ensures { result ≡ scrubbed calls reshape envelope t gate_duration }
+{
+    if calls == 0 {
+        return hold(envelope, reshape, t, gate_duration);
+    }
+    if t > gate_duration {
         let phase = (t - gate_duration) * envelope.increment[3];
         if phase >= 1.0 {
             return envelope.level[3];
         }
-        let start = hold(envelope, reshape, gate_duration, gate_duration);
+        let start = scrub(envelope, reshape, gate_duration, gate_duration, calls - 1);
         let q = Position {
             stage: 3,
             phase,
