@@ -168,6 +168,7 @@ fn set_up(tables: &Tables, v: Voice, note: f32) -> Result<Voice, Refusal>
 }
 
 // A note from the beginning, and the hash after it.
+#[tactic(auto, unfolding(crate::specs::Identity::note_played))]
 fn play_note(tables: &Tables, r: Ready, note: f32, hash: u64) -> Result<u64, Refusal>
     ensures { result ≡ note_played tables.now r note hash }
 {
@@ -195,6 +196,7 @@ fn play_notes(tables: &Tables, r: Ready) -> Result<u64, Refusal>
 }
 
 // A patch's identifier.
+#[tactic(auto, unfolding(crate::specs::Identity::identity_of))]
 pub fn identify(patch: Patch) -> Result<u64, Refusal>
     ensures { result ≡ identity_of patch }
 {
