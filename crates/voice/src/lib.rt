@@ -32,6 +32,7 @@ pub struct Voice {
     pub ratios: [Ratio; 6],
     pub level_headroom: [f32; 6],
     pub feedback_state: Feedback,
+    // Stays: an Option<Patch> asks more of callers: a host's voice may hold any patch, row and plan beside false here.
     pub has_patch: bool,
     pub patch: Patch,
     pub row: [u8; 6],
