@@ -181,7 +181,6 @@ pub fn set_patch(v: Voice, patch: Patch, table: &[u8]) -> Result<Voice, Refused<
 }
 
 // No patch any more.
-#[tactic(auto, unfolding(crate::specs::Answers::take_patch_answer, crate::specs::Answers::accepted, crate::specs::Voice::without_patch, algorithms::specs::Table::six))]
 pub fn take_patch(v: Voice) -> Result<Voice, Refused<Voice>>
     ensures { result ≡ take_patch_answer v }
 {
