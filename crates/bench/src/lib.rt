@@ -9,9 +9,8 @@ use algorithms::Call;
 use bank_pieces::Receiver;
 use operator::{Chain, Feedback};
 use patch::{Envelope, KeyboardScaling, ModulationParameters, Operator, Patch};
-use refusals::Refused;
 use voice::Voice;
-use voice_render::{Rendered, VoiceParameters};
+use voice_render::VoiceParameters;
 
 // Blocks of the sine, one after the other in the same place: each starts one further on than the last, the
 // phase moves by a step and the modulation by another. The table is made once and lent.
@@ -350,21 +349,6 @@ fn mixed_call(c: Call) -> u8 {
     c.first ^ c.n ^ c.input ^ c.output ^ (c.add as u8)
 }
 
-// The voice that a caller goes on with.
-fn after(done: Result<Voice, Refused<Voice>>) -> Voice {
-    match done {
-        Ok(v) => v,
-        Err(e) => e.state,
-    }
-}
-
-fn after_block(done: Result<Rendered, Refused<Voice>>) -> Voice {
-    match done {
-        Ok(r) => r.voice,
-        Err(e) => e.state,
-    }
-}
-
 // Blocks of a voice, one after the other in the same place; the voice afterwards. Where it is made dirty again before
 // each, all are blank, and each sets the patch up.
 fn blocks_in_turn(
@@ -380,7 +364,10 @@ fn blocks_in_turn(
     let mut v = first;
     for _ in 0..blocks {
         v.dirty |= again;
-        v = after_block(voice_render::render_with(pairs, high, low, v, p, block));
+        v = match voice_render::render_with(pairs, high, low, v, p, block) {
+            Ok(rendered) => rendered.voice,
+            Err(refused) => refused.state,
+        };
     }
     v
 }
@@ -388,8 +375,8 @@ fn blocks_in_turn(
 // A fresh voice with the patch of packed bytes, which its first block sets up.
 fn loaded(bytes: &[u8]) -> Voice {
     let table = algorithms_opcodes::opcodes_6_32();
-    let fresh = after(voice::init(6, 48000.0));
-    after(voice::set_patch(fresh, read(bytes), &table))
+    let fresh = voice::init(6, 48000.0).unwrap_or_else(|refused| refused.state);
+    voice::set_patch(fresh, read(bytes), &table).unwrap_or_else(|refused| refused.state)
 }
 
 // A key that is down.
@@ -413,14 +400,7 @@ pub extern "C" fn bench_voice(bytes: &[u8], note: f32, blocks: u32, block: &mut 
     let high = units::lut_pitch_ratio_high();
     let low = units::lut_pitch_ratio_low();
     let p = played(note);
-    let clean = after_block(voice_render::render_with(
-        &pairs,
-        &high,
-        &low,
-        loaded(bytes),
-        p,
-        block,
-    ));
+    let clean = blocks_in_turn(&pairs, &high, &low, loaded(bytes), false, p, 1, block);
     let v = blocks_in_turn(&pairs, &high, &low, clean, false, p, blocks, block);
     v.operator[5].phase
 }

@@ -23,17 +23,12 @@ fn parameters(note: f32) -> VoiceParameters {
 
 // The voice that a caller goes on with.
 fn after(done: Result<Voice, Refused<Voice>>) -> Voice {
-    match done {
-        Ok(v) => v,
-        Err(e) => e.state,
-    }
+    done.unwrap_or_else(|e| e.state)
 }
 
-fn after_block(done: Result<Rendered, Refused<Voice>>) -> Voice {
-    match done {
-        Ok(r) => r.voice,
-        Err(e) => e.state,
-    }
+// A block's answer without its marks.
+fn left(done: Result<Rendered, Refused<Voice>>) -> Result<Voice, Refused<Voice>> {
+    done.map(|r| r.voice)
 }
 
 // The number of an answer: 0 for one that is no refusal.
@@ -85,8 +80,8 @@ fn starts(to: Streams) -> io::Result<()> {
 // The easy slip: a blank block does not record the gate.
 fn gates(to: Streams) -> io::Result<()> {
     let mut block = [0.0f32; 8];
-    let v = after_block(voice_render::render(dirty(), parameters(60.0), &mut block));
-    let w = after_block(voice_render::render(v, parameters(60.0), &mut block));
+    let v = after(left(voice_render::render(dirty(), parameters(60.0), &mut block)));
+    let w = after(left(voice_render::render(v, parameters(60.0), &mut block)));
     line(to, "gate after a blank block: ", v.gate as u64)?;
     line(to, "gate after a sounding block: ", w.gate as u64)
 }
@@ -140,7 +135,7 @@ fn marked(to: Streams, text: &str, done: Result<Rendered, Refused<Voice>>) -> io
 fn marks(to: Streams) -> io::Result<()> {
     let mut block = [0.0f32; 8];
     let blank = voice_render::render(high(), parameters(100.0), &mut block);
-    let v = after_block(blank);
+    let v = after(left(blank));
     marked(to, "marks of a blank block: ", blank)?;
     let sounding = voice_render::render(v, parameters(100.0), &mut block);
     marked(to, "marks of a sounding block: ", sounding)?;
@@ -160,8 +155,8 @@ fn transposing(transpose: u8, on: bool) -> Voice {
 // The note that a voice has after a blank block and a sounding one.
 fn played(to: Streams, text: &str, v: Voice, note: f32) -> io::Result<()> {
     let mut block = [0.0f32; 8];
-    let w = after_block(voice_render::render(v, parameters(note), &mut block));
-    let x = after_block(voice_render::render(w, parameters(note), &mut block));
+    let w = after(left(voice_render::render(v, parameters(note), &mut block)));
+    let x = after(left(voice_render::render(w, parameters(note), &mut block)));
     line(to, text, numbers::f32_as_u32(x.note) as u64)
 }
 

@@ -1,6 +1,6 @@
-// The judge's entries 80 to 8f (hex, docs/ORACLE.md): the crates `voice` and `voice_render`. The voice is the register's.
-// On the wire it is its fields in the struct's order, 667 bytes: a ratio is its kind (0 to the note, 1 to 1 Hz) and a
-// float.
+// The judge's entries 80 to 8f (hex, docs/ORACLE.md): the crates `voice` and `voice_render`. The voice is the
+// register's. On the wire it is its fields in the struct's order, 667 bytes: a ratio is its kind (0 to the note, 1 to
+// 1 Hz) and a float.
 #![tactic(auto)]
 
 ghost use Rattle.std.specs.Prelude.{◌<◌};

@@ -1,5 +1,6 @@
 -- The marks of a block in the words of document 02's request e. Definitions only.
-use Rattle.std.specs.Prelude.{ℕ, ◌/◌, Bool, cond, not, ◌&&◌, ◌||◌, List, eqb, leb, length, get_or, Float, Result, Ok, Err}
+use Rattle.std.specs.Prelude.{ℕ, ◌/◌, Bool, cond, not, ◌&&◌, ◌||◌, List, eqb, leb, length, get_or, Float}
+use Rattle.std.specs.Prelude.{Result, Ok, Err}
 use Rattle.refusals.specs.declared.Refused.{Refused}
 use Rattle.dx_units_step.specs.declared.Mark.{Mark}
 use Rattle.dx_units_step.specs.declared.Mark.TheVariants.{AsAsked}

@@ -13,7 +13,8 @@ use Rattle.voice_render.specs.declared.Rendered.{Rendered}
 use Rattle.voice_render.specs.declared.VoiceParameters.{VoiceParameters}
 use Rattle.voice_render.specs.Setup.{set_up}
 use Rattle.voice_render.specs.Block.{with_note, sounded}
-use Rattle.voice_render.specs.Answers.{block_fits, parameters_fit, Answered, answered_by, block_refused, blank, sounding}
+use Rattle.voice_render.specs.Answers.{block_fits, parameters_fit, Answered, answered_by, block_refused, blank}
+use Rattle.voice_render.specs.Answers.{sounding}
 
 -- 9, 8, 7; a dirty voice's block is blank: it sets up, touches no buffer and does not record the gate
 unfoldable pub plain_answer : List Float → List Float → List Float → Voice → VoiceParameters → List Float → Answered

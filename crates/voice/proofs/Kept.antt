@@ -64,7 +64,8 @@ init_fits operators rate t u =
 module _ (operators : ℕ) (rate : Float) where
   -- the start, for each way that its tests go
   abbrev start : Bool → Bool → Result Voice (Refused Voice)
-  start b c = cond b (cond c (Ok (fresh_voice operators rate)) (refused SampleRate no_voice)) (refused WrongTable no_voice)
+  start b c =
+      cond b (cond c (Ok (fresh_voice operators rate)) (refused SampleRate no_voice)) (refused WrongTable no_voice)
 
   abbrev made : Result Voice (Refused Voice)
   made = init_answer operators rate
@@ -109,11 +110,14 @@ walk_number operators [] inside first p = tt
 walk_number operators (o ∷ os) (suc inside) first p = walk_number operators os inside (suc first) p
 walk_number operators (o ∷ os) zero first p =
     at_call (λ q. IfErr q (λ e. NoNine (number_of e))) operators first p o os tt tt
-    (λ x y. walk_number operators os (rendered operators (o ∷ os) - 1) (suc first) (extended p (call_of first (rendered operators (o ∷ os)) (o ∷ os))))
+    (λ x y. walk_number operators os (rendered operators (o ∷ os) - 1) (suc first)
+    (extended p (call_of first (rendered operators (o ∷ os)) (o ∷ os))))
 
 planned_compiles : (operators : ℕ) (bytes : List ℕ) → Compiles operators (with_row bytes (planned operators bytes))
 unfolding planned with_row
-planned_compiles operators bytes = go (counted operators) refl (plan_from operators 0 0 no_plan (take operators bytes)) refl (walk_number operators (take operators bytes) 0 0 no_plan)
+planned_compiles operators bytes =
+    go (counted operators) refl (plan_from operators 0 0 no_plan (take operators bytes)) refl
+    (walk_number operators (take operators bytes) 0 0 no_plan)
   where
     go : (b : Bool) → counted operators ≡ b → (r : Result Plan Refusal)
         → plan_from operators 0 0 no_plan (take operators bytes) ≡ r

@@ -32,6 +32,7 @@ pub struct Voice {
     pub ratios: [Ratio; 6],
     pub level_headroom: [f32; 6],
     pub feedback_state: Feedback,
+    // Stays: an Option<Patch> asks more of callers: a host's voice may hold any patch, row and plan beside false here.
     pub has_patch: bool,
     pub patch: Patch,
     pub row: [u8; 6],
@@ -180,7 +181,6 @@ pub fn set_patch(v: Voice, patch: Patch, table: &[u8]) -> Result<Voice, Refused<
 }
 
 // No patch any more.
-#[tactic(auto, unfolding(crate::specs::Answers::take_patch_answer, crate::specs::Answers::accepted, crate::specs::Voice::without_patch, algorithms::specs::Table::six))]
 pub fn take_patch(v: Voice) -> Result<Voice, Refused<Voice>>
     ensures { result ≡ take_patch_answer v }
 {
