@@ -10,8 +10,8 @@ ghost use Rattle.lfo.specs.Answers.{from_zero, state_fits, step_fits, scrub_fits
 ghost use Rattle.lfo.specs.Answers.{init_answer, set_answer, reset_answer, step_answer, scrub_answer};
 ghost use Rattle.lfo.specs.Answers.{value_answer, delay_ramp_answer, pitch_mod_answer, amp_mod_answer};
 
-use refusals::{Refusal, Refused};
 pub use lfo_inner::{Lfo, Motion, Waveform};
+use refusals::{Refusal, Refused};
 
 // A fresh LFO; 5 where the sample rate is not finite, below 8,000 or above 192,000, beside an LFO that every other
 // entry refuses with 9: all zeros, but for a phase of 1.
@@ -68,7 +68,11 @@ pub fn step_with(lut: &[f32; 641], motion: Motion, scale: f32) -> Result<Motion,
     ensures { result ≡ step_answer lut.now motion scale }
 {
     let fits = step_fits(motion.lfo, scale);
-    moved(motion, fits, |motion| lfo_inner::step_with(lut, motion, scale))
+    moved(
+        motion,
+        fits,
+        |motion| lfo_inner::step_with(lut, motion, scale),
+    )
 }
 
 // To the phase at `sample`; 9, then 7.
@@ -86,7 +90,11 @@ pub fn scrub_with(lut: &[f32; 641], motion: Motion, sample: f32) -> Result<Motio
     ensures { result ≡ scrub_answer lut.now motion sample }
 {
     let fits = scrub_fits(motion.lfo, sample);
-    moved(motion, fits, |motion| lfo_inner::scrub_with(lut, motion, sample))
+    moved(
+        motion,
+        fits,
+        |motion| lfo_inner::scrub_with(lut, motion, sample),
+    )
 }
 
 // The wave at the stored phase, which need not be the stored value; 9.
@@ -148,7 +156,11 @@ fn checked(lfo: Lfo) -> Result<Lfo, Refused<Lfo>>
 }
 
 // A motion whose LFO 9 accepts and whose argument fits; 9, then 7.
-fn moved<M: FnOnce(Motion) -> Motion>(motion: Motion, fits: bool, go: M) -> Result<Motion, Refused<Motion>>
+fn moved<M: FnOnce(Motion) -> Motion>(
+    motion: Motion,
+    fits: bool,
+    go: M,
+) -> Result<Motion, Refused<Motion>>
     requires { M.IsAlwaysCallable go }
     ensures { (there : Motion) → ((m : Motion) → M.post go motion m → m ≡ there)
         → result ≡ move_answer motion fits there }
