@@ -41,8 +41,8 @@ pub enum Outcome {
     Answered { read: usize, wrote: usize },
     // The script ends inside it.
     CutShort,
-    // It names no entry.
-    Unknown,
+    // Its byte names no entry.
+    Unknown(u8),
 }
 
 // The length of the call whose fields these are, by its entry; 0 for no entry.
@@ -82,7 +82,7 @@ pub fn answer(script: &[u8], registers: &mut Registers, out: &mut [u8]) -> Outco
     let entry = fields.byte();
     let length = call_length(entry, fields);
     if length == 0 {
-        return Outcome::Unknown;
+        return Outcome::Unknown(entry);
     }
     if script.len() < length || out.len() < HEAD {
         return Outcome::CutShort;

@@ -6,9 +6,8 @@
 ghost use Rattle.std.specs.Prelude.{◌≤◌, length};
 
 use calls::{Outcome, Registers};
-use std::fmt::Display;
-use std::io;
 use std::io::{Stdin, Write};
+use std::{fmt, io};
 use streams::{Streams, Window};
 
 mod calls;
@@ -25,13 +24,13 @@ struct Run {
 }
 
 // What was answered of a buffer: the bytes taken, the bytes of the answers, the calls answered up
-// to now, and whether the next call names no entry.
+// to now, and the byte of the next call where it names no entry.
 #[derive(Clone, Copy)]
 struct Progress {
     at: usize,
     put: usize,
     calls: u64,
-    unknown: bool,
+    unknown: Option<u8>,
 }
 
 // Answers the whole calls of the script while the answers have room.
@@ -49,12 +48,12 @@ fn answer_all(script: &[u8], registers: &mut Registers, answers: &mut [u8], befo
                 calls = calls.wrapping_add(1);
             }
             Outcome::CutShort => break,
-            Outcome::Unknown => {
+            Outcome::Unknown(entry) => {
                 return Progress {
                     at,
                     put,
                     calls,
-                    unknown: true,
+                    unknown: Some(entry),
                 };
             }
         }
@@ -63,14 +62,32 @@ fn answer_all(script: &[u8], registers: &mut Registers, answers: &mut [u8], befo
         at,
         put,
         calls,
-        unknown: false,
+        unknown: None,
     }
 }
 
-// The last line of a script that ended as it should not, on both streams.
-fn say_wrong<D: Display + Copy>(to: Streams, text: D) -> io::Result<()> {
-    streams::print_line(to, b"", text)?;
-    streams::tell_line(to, b"", text);
+// How a script ended that should not have.
+#[derive(Clone, Copy)]
+enum Wrong {
+    UnknownEntry { entry: u8, call: u64 },
+    CutShort { call: u64 },
+}
+
+impl fmt::Display for Wrong {
+    fn fmt<W: fmt::Write>(&self, f: &mut fmt::Formatter<W>) -> fmt::Result {
+        match self {
+            Wrong::UnknownEntry { entry, call } => {
+                write!(f, "script names unknown entry {entry} in call {call}")
+            }
+            Wrong::CutShort { call } => write!(f, "script cut short in call {call}"),
+        }
+    }
+}
+
+// The last line of such a script, on both streams.
+fn say_wrong(to: Streams, wrong: Wrong) -> io::Result<()> {
+    streams::print_line(to, b"", wrong)?;
+    streams::tell_line(to, b"", wrong);
     Ok(())
 }
 
@@ -79,12 +96,8 @@ fn say_wrong<D: Display + Copy>(to: Streams, text: D) -> io::Result<()> {
 fn is_over(to: Streams, script: &[u8], done: Progress, more: bool) -> io::Result<bool> {
     let calls = done.calls;
     let call = calls.wrapping_add(1);
-    if done.unknown {
-        let entry = script.get(done.at).copied().unwrap_or(0);
-        say_wrong(
-            to,
-            format_args!("script names unknown entry {entry} in call {call}"),
-        )?;
+    if let Some(entry) = done.unknown {
+        say_wrong(to, Wrong::UnknownEntry { entry, call })?;
         return Ok(true);
     }
     if more {
@@ -95,7 +108,7 @@ fn is_over(to: Streams, script: &[u8], done: Progress, more: bool) -> io::Result
         return Ok(true);
     }
     if done.at == 0 {
-        say_wrong(to, format_args!("script cut short in call {call}"))?;
+        say_wrong(to, Wrong::CutShort { call })?;
         return Ok(true);
     }
     Ok(false)
