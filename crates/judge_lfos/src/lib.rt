@@ -20,7 +20,6 @@ pub fn length(entry: u8) -> usize {
 
 // Writes what the call answers.
 pub fn answer(entry: u8, fields: &mut Fields<'_>, kept: &mut Motion, out: &mut Answer<'_>) {
-    let lut = sine::lut_sine();
     match entry {
         0x60 => {
             kept.lfo = read_lfo(fields);
@@ -39,9 +38,17 @@ pub fn answer(entry: u8, fields: &mut Fields<'_>, kept: &mut Motion, out: &mut A
         0x67 => put_read(out, lfo::delay_ramp(kept.lfo)),
         0x68 => put_read(out, lfo::pitch_mod(kept.lfo)),
         0x69 => put_read(out, lfo::amp_mod(kept.lfo)),
-        0x6a => keep(lfo::step_with(&lut, *kept, fields.float()), kept, out),
-        0x6b => keep(lfo::scrub_with(&lut, *kept, fields.float()), kept, out),
-        _ => put_read(out, lfo::value_with(&lut, kept.lfo)),
+        0x6a => keep(
+            lfo::step_with(&sine::lut_sine(), *kept, fields.float()),
+            kept,
+            out,
+        ),
+        0x6b => keep(
+            lfo::scrub_with(&sine::lut_sine(), *kept, fields.float()),
+            kept,
+            out,
+        ),
+        _ => put_read(out, lfo::value_with(&sine::lut_sine(), kept.lfo)),
     }
 }
 
