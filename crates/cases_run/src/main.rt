@@ -36,6 +36,6 @@ fn main(rt: HostRuntime) {
         err: rt.stderr(),
     };
     if let Err(error) = run(to) {
-        streams::fail(to, "standard output", &error);
+        streams::fail(to, b"standard output", &error);
     }
 }

@@ -17,9 +17,8 @@ const WORDS: [&str; 8] = [
     "|------:|----:|----:|----:|----:|----:|----:|----:|----:|----:|----:|",
 ];
 
-// A row: the first of its levels, and the steps of all ten.
-fn print_row(to: Streams, level: usize, steps: &[u8]) -> io::Result<()> {
-    let mut line = Line::led_by(b"");
+// A row: the first of its levels, and the steps of all ten. The line is empty before and after.
+fn print_row(to: Streams, line: &mut Line, level: usize, steps: &[u8]) -> io::Result<()> {
     line.put(format_args!("|   {level:3}"));
     for n in steps {
         line.put(format_args!(" | {n:3}"));
@@ -29,12 +28,14 @@ fn print_row(to: Streams, level: usize, steps: &[u8]) -> io::Result<()> {
 }
 
 fn print(to: Streams) -> io::Result<()> {
+    let mut line = Line::led_by(b"");
     for words in WORDS {
-        streams::print_line(to, b"", words)?;
+        line.put(words);
+        line.print(to)?;
     }
     let chart = dx_units_inner::level_chart();
     for (row, steps) in chart.chunks(10).enumerate() {
-        print_row(to, row * 10, steps)?;
+        print_row(to, &mut line, row * 10, steps)?;
     }
     Ok(())
 }
@@ -45,6 +46,6 @@ fn main(rt: HostRuntime) {
         err: rt.stderr(),
     };
     if let Err(error) = print(to) {
-        streams::fail(to, "standard output", &error);
+        streams::fail(to, b"standard output", &error);
     }
 }

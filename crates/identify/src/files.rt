@@ -22,9 +22,9 @@ fn is_short(w: Window) -> bool {
 // That a read failed.
 fn tell_unread(to: Streams, name: &[u8], error: &io::Error) {
     if name.is_empty() {
-        streams::fail(to, "standard input", error);
+        streams::fail(to, b"standard input", error);
     } else {
-        streams::tell_why(to, name, "cannot be read", error);
+        streams::tell_why(to, name, b"cannot be read", error);
     }
 }
 

@@ -40,7 +40,7 @@ fn file<R: Files>(rt: &R, to: Streams, name: &[u8]) -> io::Result<()> {
     match opened(rt, name) {
         Ok(mut from) => files::print_file(&mut from, to, name),
         Err(error) => {
-            streams::tell_why(to, name, "cannot be opened", &error);
+            streams::tell_why(to, name, b"cannot be opened", &error);
             Ok(())
         }
     }
@@ -78,6 +78,6 @@ fn main(rt: HostRuntime) {
         standard_input(&mut rt.stdin(), to)
     };
     if let Err(error) = done {
-        streams::fail(to, "standard output", &error);
+        streams::fail(to, b"standard output", &error);
     }
 }

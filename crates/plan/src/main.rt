@@ -38,9 +38,9 @@ fn main(rt: HostRuntime) {
     match streams::read_full(&mut rt.stdin(), &mut bytes) {
         Ok(got) => {
             if let Err(error) = print(to, &bytes[..got]) {
-                streams::fail(to, "standard output", &error);
+                streams::fail(to, b"standard output", &error);
             }
         }
-        Err(error) => streams::fail(to, "standard input", &error),
+        Err(error) => streams::fail(to, b"standard input", &error),
     }
 }

@@ -72,7 +72,7 @@ fn read(from: &mut Stdin, to: Streams, buffer: &mut [u8], run: &mut Run) -> io::
             }
         }
         Err(error) => {
-            streams::fail(to, "standard input", &error);
+            streams::fail(to, b"standard input", &error);
             run.going = false;
         }
     }
@@ -108,6 +108,6 @@ fn main(rt: HostRuntime) {
         err: rt.stderr(),
     };
     if let Err(error) = receive(&mut rt.stdin(), to) {
-        streams::fail(to, "standard output", &error);
+        streams::fail(to, b"standard output", &error);
     }
 }

@@ -13,7 +13,14 @@ use Rattle.std.proofs.lemmas.List.Edits.{sets-eq}
 use Rattle.std.proofs.Common.{append_assoc}
 use lib.Seq.{sets, length-sets, length-take-le, drop-drop}
 use borrow.Author.Tests.{leb-true}
+use Rattle.std.specs.Prelude.{codes, decimal as printed_number}
+use Rattle.std.specs.Fmt.{digits}
 use Rattle.refusals.specs.Refusals.{words, words_of, letters, digit, decimal, refusal, Begins, Put}
+use Rattle.refusals.specs.Answer.{number_of}
+use Rattle.refusals.specs.declared.Refusal.{Refusal}
+use Rattle.refusals.specs.declared.Refusal.TheVariants.{ShortPatch, WrongTable, NoRenderer, UnsetBuffer, SampleRate}
+use Rattle.refusals.specs.declared.Refusal.TheVariants.{Field, Parameter, BlockLength, ForeignState, WrongLength}
+use Rattle.refusals.specs.declared.Refusal.TheVariants.{FrameByte, HighByte, Checksum}
 
 -- ---- pieces one after the other
 
@@ -96,3 +103,30 @@ module _ (before text after : List ℕ) (r : ℕ) (l : length before ≡ 64) (w 
 
   pub part : r ≡ length (take r after)
   part = sym (length-take-le r after within)
+
+-- ---- the text that programs print
+
+-- a refusal's number has one or two digits, which std writes as this text does
+module _ (words : List ℕ) where
+  printed : (r : Refusal) → codes "refused " ++ (printed_number (number_of r) ++ (codes ": " ++ words))
+      ≡ letters "refused " ++ (decimal (number_of r) ++ (letters ": " ++ words))
+  unfolding letters decimal digit digits
+  printed ShortPatch = refl
+  printed WrongTable = refl
+  printed (NoRenderer at) = refl
+  printed (UnsetBuffer at) = refl
+  printed SampleRate = refl
+  printed Field = refl
+  printed Parameter = refl
+  printed BlockLength = refl
+  printed ForeignState = refl
+  printed WrongLength = refl
+  printed FrameByte = refl
+  printed HighByte = refl
+  printed Checksum = refl
+
+pub shown : (r : Refusal) (number : ℕ) (words : List ℕ) → number ≡ number_of r
+    → words ≡ letters (words_of (number_of r))
+    → codes "refused " ++ (printed_number number ++ (codes ": " ++ words)) ≡ refusal (number_of r)
+unfolding refusal
+shown r number words e w = rw (e, w) (printed (letters (words_of (number_of r))) r)

@@ -3,7 +3,7 @@
 // of a lent buffer: it promises the definition's text for every number, and that what stood behind it stays.
 #![tactic(auto)]
 
-ghost use Rattle.std.specs.Prelude.{◌≡◌, ◌+◌, ◌≤◌, length};
+ghost use Rattle.std.specs.Prelude.{◌≡◌, ◌+◌, ◌≤◌, length, Some};
 ghost use Rattle.refusals.specs.Answer.{number_of, place_of};
 ghost use Rattle.refusals.specs.Refusals.{Begins, decimal, letters, refusal, words_of};
 ghost use Rattle.refusals.specs.Refusals.{digit as Refusals·digit};
@@ -93,7 +93,10 @@ fn sentence(number: u8) -> &'static str
     }
 }
 
+// The text that programs print. It promises the words that `text` writes.
 impl fmt::Display for Refusal {
+    ghost output = { λ r. Some (refusal (number_of r)) };
+
     fn fmt<W: fmt::Write>(&self, f: &mut fmt::Formatter<W>) -> fmt::Result {
         let number = self.number();
         let words = self.words();

@@ -146,7 +146,7 @@ fn turn(
             answer_window(to, held, registers, answers, run)
         }
         Err(error) => {
-            streams::fail(to, "standard input", &error);
+            streams::fail(to, b"standard input", &error);
             run.going = false;
             Ok(())
         }
@@ -186,6 +186,6 @@ fn main(rt: HostRuntime) {
         err: rt.stderr(),
     };
     if let Err(error) = replay(&mut rt.stdin(), to) {
-        streams::fail(to, "standard output", &error);
+        streams::fail(to, b"standard output", &error);
     }
 }

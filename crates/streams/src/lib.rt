@@ -72,16 +72,21 @@ impl Line {
         );
     }
 
-    // To standard output, by one call, so that the lines of several processes do not mix.
-    pub fn print(mut self, to: Streams) -> io::Result<()> {
+    // To standard output, by one call, so that the lines of several processes do not mix. It is empty afterwards, for
+    // the next line: clearing its room takes as long as writing to it.
+    pub fn print(&mut self, to: Streams) -> io::Result<()> {
         self.push(b"\n");
-        to.out.write_all(&self.bytes[..self.size])
+        let size = self.size;
+        self.size = 0;
+        to.out.write_all(&self.bytes[..size])
     }
 
-    // To standard error. Where that fails there is nowhere to tell it.
-    pub fn tell(mut self, to: Streams) {
+    // To standard error, likewise. Where that fails there is nowhere to tell it.
+    pub fn tell(&mut self, to: Streams) {
         self.push(b"\n");
-        let _ = to.err.write_all(&self.bytes[..self.size]);
+        let size = self.size;
+        self.size = 0;
+        let _ = to.err.write_all(&self.bytes[..size]);
     }
 }
 
@@ -100,15 +105,16 @@ pub fn tell_line<D: Display + Drop>(to: Streams, name: &[u8], text: D) {
 }
 
 // What failed with a named file, and why.
-pub fn tell_why(to: Streams, name: &[u8], what: &str, error: &io::Error) {
+pub fn tell_why(to: Streams, name: &[u8], what: &[u8], error: &io::Error) {
     let mut line = Line::led_by(name);
-    line.put(format_args!("{what}: "));
+    line.push(what);
+    line.push(b": ");
     line.put_reason(error);
     line.tell(to);
 }
 
 // What failed, and why.
-pub fn fail(to: Streams, what: &str, error: &io::Error) {
+pub fn fail(to: Streams, what: &[u8], error: &io::Error) {
     tell_why(to, b"", what, error);
 }
 
