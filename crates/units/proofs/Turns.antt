@@ -1,4 +1,4 @@
--- The turns of the ratio's definition: at most one is taken, and what they hand on is from -120 to 120. Assumes nothing.
+-- The loops of the ratio: each takes one turn at most, and what they hand on is from -120 to 120. Assumes nothing.
 use mathlib.Core.Path.{◌≡◌, refl, sym, subst}
 use mathlib.Core.Bool.{Bool, true, false, ◌&&◌, cond}
 use mathlib.Core.List.{List}
@@ -19,7 +19,9 @@ use Rattle.numbers.proofs.Rounded.{Plus, p_inf, p_fin, round_plus, round_neg, Up
 use Rattle.numbers.specs.F32.{◌⊕◌, ◌⊖◌, ◌⊗◌, ◌⊘◌, decimal, minus_decimal}
 use Rattle.units.specs.declared.Shifted.{Shifted}
 use Rattle.units.specs.Ratio.{within, lowered, raised, ratio_in, ratio_of}
+use Rattle.units.specs.Loops.{above, down120, times1024, below, up120, over1024, EndsOnce, Looped}
 use Rattle.units.proofs.Bounds.{Sized, sized, is_sized}
+use Rattle.units.proofs.OneTurn.{ends_once}
 
 -- ---- 120 less, 120 more, or neither, is from -120 to 120
 
@@ -150,11 +152,16 @@ between_within : (x : Float) → T (within 240 x) → lt (decimal 120 0) x ≡ f
 unfolding decimal minus_decimal
 between_within x h g l = let p = between x (at_least 240 x h) (at_most 240 x h) g l in is_within 120 x p.0 p.1
 
--- what was lowered is neither above 120 nor below -120, so it is not raised
-lowered_once : (x : Float) → T (within 240 x) → lt (decimal 120 0) x ≡ true
+-- neither loop takes a second turn
+pub lowered_once : (x : Float) → T (within 240 x) → lt (decimal 120 0) x ≡ true
     → lt (decimal 120 0) (x ⊖ decimal 120 0) ≡ false
 lowered_once x h g = le_not_lt _ _ (at_most 120 _ (less_within x h g))
 
+pub raised_once : (x : Float) → T (within 240 x) → lt x (minus_decimal 120 0) ≡ true
+    → lt (x ⊕ decimal 120 0) (minus_decimal 120 0) ≡ false
+raised_once x h g = le_not_lt _ _ (at_least 120 _ (more_within x h g))
+
+-- what was lowered is not raised
 pub not_raised : (x : Float) → T (within 240 x) → lt (decimal 120 0) x ≡ true
     → lt (x ⊖ decimal 120 0) (minus_decimal 120 0) ≡ false
 not_raised x h g = le_not_lt _ _ (at_least 120 _ (less_within x h g))
@@ -206,6 +213,24 @@ lowered_below x h = go (lt (decimal 120 0) x) refl
 
 pub handed_on : (x : Float) → T (within 240 x) → T (within 120 (raised (lowered x)).semitones)
 handed_on x h = raised_within (lowered x) (lowered_within x h) (lowered_below x h)
+
+-- ---- the Rust's loops end where the definition says, after one turn each at most
+
+pub lowers : (x : Float) → T (within 240 x)
+    → EndsOnce above down120 times1024 (record { semitones = x; scale = decimal 1 0 }) (lowered x)
+unfolding lowered
+lowers x h = ends_once above down120 times1024 x (decimal 1 0) (lowered_once x h)
+
+pub raises : (x : Shifted) → T (within 240 x.semitones) → EndsOnce below up120 over1024 x (raised x)
+unfolding raised
+raises x h = ends_once below up120 over1024 x.semitones x.scale (raised_once x.semitones h)
+
+pub loops_end : (x : Float) {y : Shifted} → T (within 240 x) → y ≡ raised (lowered x)
+    → (y ≡ raised (lowered x)) × Looped x y
+loops_end x h e =
+    let r : Looped x (raised (lowered x)) =
+    record { between = lowered x; down = lowers x h; up = raises (lowered x) (lowered_within x h) } in
+    (e, subst (Looped x) (sym e) r)
 
 -- ---- the three ways through both turns
 

@@ -7,6 +7,7 @@
 ghost use Rattle.std.specs.Prelude.{◌≡◌, T};
 ghost use Rattle.units.specs.Tables.{lut_pitch_ratio_high, lut_pitch_ratio_low};
 ghost use Rattle.units.specs.Ratio.{within, ratio_in, lowered, raised, ratio_of};
+ghost use Rattle.units.specs.Loops.{Looped};
 
 mod tables;
 
@@ -57,13 +58,15 @@ pub fn semitones_to_ratio_lent(high: &[f32; 256], low: &[f32; 256], semitones: f
 pub fn semitones_to_ratio_safe(semitones: f32) -> f32
     ensures { result ≡ ratio_of lut_pitch_ratio_high lut_pitch_ratio_low semitones }
 {
-    semitones_to_ratio_lent(&lut_pitch_ratio_high(), &lut_pitch_ratio_low(), semitones)
+    let high = lut_pitch_ratio_high();
+    let low = lut_pitch_ratio_low();
+    semitones_to_ratio_lent(&high, &low, semitones)
 }
 
 // Down by ten octaves above ten, up by ten below minus ten: up to 240 semitones the Rust's loops take one turn at most.
 fn folded(semitones: f32) -> Shifted
     requires { T (within 240 semitones) }
-    ensures { result ≡ raised (lowered semitones) }
+    ensures { (result ≡ raised (lowered semitones)) × Looped semitones result }
 {
     if semitones > 120.0 {
         return Shifted {

@@ -17,13 +17,13 @@ folded-near-requires c =
 
 pub semitones_to_ratio-requires : goal.semitones_to_ratio-requires
 semitones_to_ratio-requires c =
-    subst (λ (x : Shifted). T (within 120 x.semitones)) (sym c.folded-near.ensures)
+    subst (λ (x : Shifted). T (within 120 x.semitones)) (sym c.folded-near.ensures.0)
     (handed_on _ (folded-near-requires c.before))
 
 pub returns-then-semitones-2 : goal.returns-then-semitones-2
 returns-then-semitones-2 c =
     inside c.args.high.now c.args.low.now c.args.semitones (folded-near-requires c.before.before.before)
-    c.folded-near.ensures c.semitones_to_ratio.ensures
+    c.folded-near.ensures.0 c.semitones_to_ratio.ensures
 
 pub returns : goal.returns
 unfolding of_bits neg decimal minus_decimal
