@@ -3,5 +3,6 @@ pub mod Lengths
 pub mod Steps
 pub mod Tables
 pub mod Same
+pub mod Together
 pub mod Accepted
 pub mod Reasons

@@ -8,15 +8,16 @@ use native.Mathlib.Numerals.{add-one}
 use native.Mathlib.Omega.{arith}
 use mathlib.Core.List.{List, [], ◌∷◌}
 use lib.Dec.{eqb}
-use lib.ListN.{length, get_or, set, drop, drop_of_length-le}
-use Rattle.std.specs.Prelude.{Result, Ok, Err}
-use lib.Seq.{get_or-set_same, get_or-set_other}
+use lib.ListN.{length, get_or, set, take, drop, length-drop, drop_of_length-le}
+use Rattle.std.specs.Prelude.{Option, Some, Result, Ok, Err}
+use lib.Seq.{take_all, drop-drop, get_or-set_same, get_or-set_other}
 use borrow.Author.Tests.{ne_eqb, eqb-true, eqb-false}
 use Rattle.algorithms.specs.Opcode.{destination, source}
-use Rattle.algorithms.specs.Chain.{rendered}
+use Rattle.algorithms.specs.Chain.{rendered, some}
 use Rattle.algorithms.specs.Plan.{call_of, no_call, reading, ready, unready, extended, plan_from}
 use Rattle.algorithms.specs.declared.Call.{Call}
 use Rattle.algorithms.specs.declared.Plan.{Plan}
+use Rattle.algorithms.proofs.Lengths.{some_is, rendered_most}
 use Rattle.refusals.specs.declared.Refusal.{Refusal}
 use Rattle.refusals.specs.declared.Refusal.TheVariants.{NoRenderer, UnsetBuffer}
 
@@ -99,6 +100,47 @@ pub done_at : (operators first : ℕ) (row : List ℕ) (p : Plan) → length row
     → Ok p ≡ plan_from operators 0 first p (drop first row)
 unfolding plan_from
 done_at operators first row p h = rw (drop_of_length-le row {i = first} h)
+
+-- ---- a walk over a slice, whose operators from `first` on the code reads
+
+-- what the code reads of the row, its operators from `first` on
+pub from_on : (first : ℕ) (row : List ℕ) → take (length row - first) (drop first row) ≡ drop first row
+from_on first row = take_all (length row - first) (drop first row) (omega (arith, length-drop first row))
+
+-- a call that has a renderer
+pub record Found (first n : ℕ) (row : List ℕ) : Type 0 where
+  pub is : n ≡ rendered (length row) (drop first row)
+  pub one : 1 ≤ n
+  pub within : first + n ≤ length row
+
+pub found : {r : Option ℕ} (first n : ℕ) (row : List ℕ) → first < length row
+    → r ≡ some (rendered (length row) (take (length row - first) (drop first row))) → r ≡ Some n → Found first n row
+found first n row h e z =
+    let s = some_is (rendered (length row) (drop first row)) n (sym z ∙ e ∙ ap (λ (l : List ℕ). some (rendered (length
+    row) l)) (from_on first row)) in
+    record {
+      is = s.0;
+      one = s.1;
+      within = omega (
+        arith,
+        s.0,
+        rendered_most (length row) (drop first row) (omega (arith, length-drop first row)),
+        length-drop first row,
+      );
+    }
+
+pub called : {c : Call} (first n : ℕ) (row : List ℕ) → c ≡ call_of first n (take (length row - first) (drop first row))
+    → c ≡ call_of first n (drop first row)
+called first n row e = e ∙ ap (call_of first n) (from_on first row)
+
+pub called_n : {c : Call} (first n : ℕ) (os : List ℕ) → c ≡ call_of first n os → c.n ≡ n
+unfolding call_of
+called_n first n os e = rw e refl
+
+pub next_at : (operators first k n : ℕ) (p : Plan) (row : List ℕ) → k ≡ n → {q : Result Plan Refusal}
+    → plan_from operators 0 (first + n) p (drop n (drop first row)) ≡ q
+    → plan_from operators 0 (first + k) p (drop (first + k) row) ≡ q
+next_at operators first k n p row e h = rw (e, ← drop-drop n first row) h
 
 -- ---- flags
 

@@ -12,7 +12,7 @@ ghost use Rattle.refusals.specs.declared.Refusal.TheVariants.{WrongTable};
 ghost use Rattle.algorithms.specs.Opcode.{destination, adding, source, flagged, modulating};
 ghost use Rattle.algorithms.specs.Chain.{unmet, grown, reused, chained, call_length, rendered, some};
 ghost use Rattle.algorithms.specs.Plan.{no_call, no_plan, call_of, reading, unready, plan_from, counted, planned};
-ghost use Rattle.algorithms.specs.Plan.{is_plan_of};
+ghost use Rattle.algorithms.specs.Plan.{is_plan, is_plan_of};
 ghost use Rattle.algorithms.specs.Table.{six, tabled, row_of, compiled, modulator_answer};
 
 use refusals::Refusal;
@@ -202,19 +202,21 @@ pub fn is_unready(flags: &[bool; 4], c: Call) -> bool
     (is_reading(c) && !flags[c.input as usize]) || (c.add && !flags[c.output as usize])
 }
 
+// What stands behind a plan's calls.
+const NO_CALL: Call = Call {
+    first: 0,
+    n: 0,
+    input: UNMODULATED,
+    output: 0,
+    add: false,
+};
+
 pub fn no_plan() -> Plan
     ensures { result ≡ no_plan }
 {
-    let none = Call {
-        first: 0,
-        n: 0,
-        input: UNMODULATED,
-        output: 0,
-        add: false,
-    };
     Plan {
         count: 0,
-        calls: [none; 6],
+        calls: [NO_CALL; 6],
     }
 }
 
@@ -263,11 +265,48 @@ pub fn compile_row(operators: usize, row: [u8; 6]) -> Result<Plan, Refusal>
     compile_calls(&row[..operators])
 }
 
+// Whether a row's operators are accepted and this is their plan. It walks the two together, up to the first call that
+// differs, and builds no other plan.
+fn is_compiled_to(row: &[u8], plan: &Plan) -> bool
+    requires { length row.now ≤ 6 }
+    ensures { result ≡ is_plan (plan_from (length row.now) 0 0 no_plan row.now) plan.now }
+{
+    let mut ready = [true, false, false, false];
+    let mut k = 0;
+    let mut first = 0u8;
+    // Stays: (d) a call takes one to three operators, so no `for` goes from call to call.
+    while (first as usize) < row.len() {
+        let os = &row[first as usize..];
+        let Some(n) = rendered_length(row.len(), os) else {
+            return false;
+        };
+        let c = call_of(first, n, os);
+        if is_unready(&ready, c) {
+            return false;
+        }
+        if c != plan.calls[k] {
+            return false;
+        }
+        ready[c.output as usize] = true;
+        k += 1;
+        first += c.n;
+    }
+    if plan.count as usize != k {
+        return false;
+    }
+    for d in &plan.calls[k..] {
+        if *d != NO_CALL {
+            return false;
+        }
+    }
+    true
+}
+
 // Whether a row is accepted and this is its plan.
 pub fn is_plan_of(operators: usize, row: [u8; 6], plan: Plan) -> bool
     ensures { result ≡ is_plan_of operators row plan }
 {
-    compile_row(operators, row) == Ok(plan)
+    is_counted(operators) && is_compiled_to(&row[..operators], &plan)
 }
 
 // A row's six bytes, zero where there are none.

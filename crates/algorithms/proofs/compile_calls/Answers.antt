@@ -1,59 +1,15 @@
 -- `algorithms::compile_calls` meets its contract. Assumes nothing.
-use mathlib.Core.Path.{◌≡◌, refl, sym, ap, ◌∙◌}
+use mathlib.Core.Path.{refl, sym, ap, ◌∙◌}
 use mathlib.Core.List.{List}
-use Prim.Native.Nat.{ℕ, ◌+◌, ◌-◌, ◌≤◌, ◌<◌}
+use Prim.Native.Nat.{ℕ}
 use native.Mathlib.Omega.{arith}
-use lib.ListN.{length, take, drop, length-drop, length-set}
-use lib.Seq.{take_all, drop-drop}
-use Rattle.std.specs.Prelude.{Option, Some, Result}
+use lib.ListN.{length, length-drop, length-set}
 use Rattle.algorithms.specs.Chain.{rendered, some}
-use Rattle.algorithms.specs.Plan.{call_of, extended, plan_from}
-use Rattle.algorithms.specs.declared.Plan.{Plan}
-use Rattle.refusals.specs.declared.Refusal.{Refusal}
-use Rattle.algorithms.specs.declared.Call.{Call}
-use Rattle.algorithms.proofs.Lengths.{some_is, none_is, rendered_most}
-use Rattle.algorithms.proofs.Steps.{flags_start, lacking_at, unready_at, step_at, done_at, call_input}
-use Rattle.algorithms.proofs.Steps.{call_output, flags_test, flags_more}
+use Rattle.algorithms.specs.Plan.{extended}
+use Rattle.algorithms.proofs.Lengths.{none_is}
+use Rattle.algorithms.proofs.Steps.{flags_start, lacking_at, unready_at, step_at, done_at, from_on, found, called}
+use Rattle.algorithms.proofs.Steps.{called_n, next_at, call_input, call_output, flags_test, flags_more}
 use Rattle.algorithms.proofs.compile_calls.Goals as goal
-
--- what the code reads of the row, its operators from `first` on
-from_on : (first : ℕ) (row : List ℕ) → take (length row - first) (drop first row) ≡ drop first row
-from_on first row = take_all (length row - first) (drop first row) (omega (arith, length-drop first row))
-
--- a call that has a renderer
-record Found (first n : ℕ) (row : List ℕ) : Type 0 where
-  is : n ≡ rendered (length row) (drop first row)
-  one : 1 ≤ n
-  within : first + n ≤ length row
-
-found : {r : Option ℕ} (first n : ℕ) (row : List ℕ) → first < length row
-    → r ≡ some (rendered (length row) (take (length row - first) (drop first row))) → r ≡ Some n → Found first n row
-found first n row h e z =
-    let s = some_is (rendered (length row) (drop first row)) n (sym z ∙ e ∙ ap (λ (l : List ℕ). some (rendered (length
-    row) l)) (from_on first row)) in
-    record {
-      is = s.0;
-      one = s.1;
-      within = omega (
-        arith,
-        s.0,
-        rendered_most (length row) (drop first row) (omega (arith, length-drop first row)),
-        length-drop first row,
-      );
-    }
-
-called : {c : Call} (first n : ℕ) (row : List ℕ) → c ≡ call_of first n (take (length row - first) (drop first row))
-    → c ≡ call_of first n (drop first row)
-called first n row e = e ∙ ap (call_of first n) (from_on first row)
-
-called_n : {c : Call} (first n : ℕ) (os : List ℕ) → c ≡ call_of first n os → c.n ≡ n
-unfolding call_of
-called_n first n os e = rw e refl
-
-next_at : (operators first k n : ℕ) (p : Plan) (row : List ℕ) → k ≡ n → {q : Result Plan Refusal}
-    → plan_from operators 0 (first + n) p (drop n (drop first row)) ≡ q
-    → plan_from operators 0 (first + k) p (drop (first + k) row) ≡ q
-next_at operators first k n p row e h = rw (e, ← drop-drop n first row) h
 
 pub loop-first-init : goal.loop-first-init
 loop-first-init c = rw c.no_plan-plan.ensures (record {
