@@ -111,27 +111,42 @@ module _ (q : Patch) (dump : List ℕ) (r : Parsed) (accepted : read_of q dump �
       (data_of_patch (data_of single_form dump) (data_length 0x00 155 dump sound))
       ∙ written_of_sound 0x00 155 dump sound)
 
-  -- WRITING WHAT WAS READ gives the dump back, byte for byte
-  pub write_of_read : write_of r.patch r.channel ≡ Ok dump
-  write_of_read = write_accepts r.patch r.channel fits below ∙ ap (λ (b : List ℕ). Ok b) written_back
+  dump_back : write_of r.patch r.channel ≡ Ok dump
+  dump_back = write_accepts r.patch r.channel fits below ∙ ap (λ (b : List ℕ). Ok b) written_back
 
-  pub to_accepts : to_packed_of dump ≡ Ok (record { channel = r.channel; bytes = packed r.patch })
+  -- WRITING WHAT WAS READ, whatever patch was handed in, gives the dump back, byte for byte
+  pub write_of_read : (p : Patch) → (read_of p dump ≡ Ok r) × (write_of r.patch r.channel ≡ Ok dump)
+  unfolding read_of
+  write_of_read p = (rw as_parsed, dump_back)
+
+  repacked_is : to_packed_of dump ≡ Ok (record { channel = r.channel; bytes = packed r.patch })
   unfolding to_packed_of
-  to_accepts = rw as_parsed
+  repacked_is = rw as_parsed
+
+  -- going across, of what is read: the dump's channel byte, and the patch in its data
+  pub to_accepts : (r ≡ record { channel = channel_byte dump; patch = voice dump })
+      × (to_packed_of dump ≡ Ok (record { channel = r.channel; bytes = packed r.patch }))
+  to_accepts = (is, repacked_is)
 
   -- the packed form is the same patch's, so it has the same identifier
   same_voice : unpacked (packed r.patch) ≡ r.patch
   unfolding patch_in
   same_voice = unpacked_of_packed r.patch (rw is (made_shaped _ 63)) (fits_everywhere r.patch fits)
 
-  pub unpack_of_to : (p : Patch) → unpack_of p (packed r.patch) ≡ Ok r.patch
+  unpack_back : (p : Patch) → unpack_of p (packed r.patch) ≡ Ok r.patch
   unfolding unpack_of
-  unpack_of_to p = rw (length_packed r.patch, same_voice)
+  unpack_back p = rw (length_packed r.patch, same_voice)
+
+  pub unpack_of_to : (p : Patch)
+      → (to_packed_of dump ≡ Ok (record { channel = r.channel; bytes = packed r.patch }))
+      × (unpack_of p (packed r.patch) ≡ Ok r.patch)
+  unpack_of_to p = (repacked_is, unpack_back p)
 
   -- ACROSS AND BACK from a dump: the dump, byte for byte, and so the patch
-  pub from_of_to : from_packed_of (packed r.patch) r.channel ≡ Ok dump
+  pub from_of_to : (to_packed_of dump ≡ Ok (record { channel = r.channel; bytes = packed r.patch }))
+      × (from_packed_of (packed r.patch) r.channel ≡ Ok dump)
   unfolding from_packed_of
-  from_of_to = rw (unpack_of_to zero_patch) write_of_read
+  from_of_to = (repacked_is, rw (unpack_back zero_patch) dump_back)
 
 -- across and back from a packed patch whose sensitivity is at most 7: the patch, and its bytes if they were clean
 abbrev sensitivity : List ℕ → ℕ
@@ -149,20 +164,39 @@ module _ (s : List ℕ) (channel : ℕ) (long : 128 ≤ length s) (low : sensiti
   unfolding unpacked
   shaped = made_shaped _ 63
 
-  pub from_accepts : from_packed_of s channel ≡ Ok written
+  unpacked_written : from_packed_of s channel ≡ write_of (unpacked s) channel
   unfolding from_packed_of unpack_of
-  from_accepts = rw (le-ltb (length s) 128 long) (write_accepts (unpacked s) channel unpacked_fits_here to)
+  unpacked_written = rw (le-ltb (length s) 128 long)
 
-  -- the patch's packed form, and the channel
-  pub to_of_from : to_packed_of written ≡ Ok (record { channel = channel; bytes = packed (unpacked s) })
-  to_of_from =
-      to_accepts zero_patch written (record { channel = channel; patch = unpacked s })
+  -- going across, of what is accepted: the unpacked patch is written
+  pub from_accepts : (from_packed_of s channel ≡ write_of (unpacked s) channel)
+      × (from_packed_of s channel ≡ Ok written)
+  from_accepts = (unpacked_written, unpacked_written ∙ write_accepts (unpacked s) channel unpacked_fits_here to)
+
+  accepted_back : to_packed_of written ≡ Ok (record { channel = channel; bytes = packed (unpacked s) })
+  accepted_back =
+      repacked_is zero_patch written (record { channel = channel; patch = unpacked s })
       (read_of_write (unpacked s) channel unpacked_fits_here to shaped zero_patch).1
 
-  -- ACROSS AND BACK from packed bytes: the same patch, and the same bytes if they were clean
-  pub patch_across : (q : Patch) → unpack_of q (packed (unpacked s)) ≡ Ok (unpacked s)
-  unfolding unpack_of
-  patch_across q = rw (length_packed (unpacked s), unpacked_of_packed (unpacked s) shaped (unpacked_fits s))
+  -- the patch's packed form, and the channel
+  pub to_of_from : (from_packed_of s channel ≡ Ok written)
+      × (to_packed_of written ≡ Ok (record { channel = channel; bytes = packed (unpacked s) }))
+  to_of_from = (from_accepts.1, accepted_back)
 
-  pub bytes_across : Clean s → packed (unpacked s) ≡ take 128 s
-  bytes_across c = packed_of_unpacked s long c
+  -- ACROSS AND BACK from packed bytes: the same patch, and the same bytes if they were clean
+  pub patch_across : (q : Patch)
+      → (from_packed_of s channel ≡ Ok written)
+      × (to_packed_of written ≡ Ok (record { channel = channel; bytes = packed (unpacked s) }))
+      × (unpack_of q (packed (unpacked s)) ≡ Ok (unpacked s))
+  unfolding unpack_of
+  patch_across q = (
+    from_accepts.1,
+    accepted_back,
+    rw (length_packed (unpacked s), unpacked_of_packed (unpacked s) shaped (unpacked_fits s)),
+  )
+
+  pub bytes_across : Clean s
+      → (from_packed_of s channel ≡ Ok written)
+      × (to_packed_of written ≡ Ok (record { channel = channel; bytes = packed (unpacked s) }))
+      × (packed (unpacked s) ≡ take 128 s)
+  bytes_across c = (from_accepts.1, accepted_back, packed_of_unpacked s long c)

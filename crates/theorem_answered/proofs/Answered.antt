@@ -3,6 +3,7 @@
 -- Assumes nothing.
 use mathlib.Core.Path.{◌≡◌, refl, ap, sym, ◌∙◌}
 use mathlib.Core.Bool.{Bool, true, false, cond, ◌&&◌}
+use mathlib.Core.List.{List}
 use Prim.Native.Nat.{ℕ, zero, suc}
 use native.Mathlib.Omega.{arith}
 use lib.Dec.{T}
@@ -20,6 +21,8 @@ use Rattle.patch.specs.Packed.{patch_fits, modulations_fit}
 use Rattle.patch_limits.specs.Ranges.{between, note_fits, unit_fits}
 use Rattle.lfo_inner.specs.Lfo.{restarted, stepped, settled, pitch_mod_of, amp_mod_of}
 use Rattle.sine.specs.Table.{lut_sine}
+use Rattle.sine.specs.Pairs.{sine_pairs}
+use Rattle.units.specs.Tables.{lut_pitch_ratio_high, lut_pitch_ratio_low}
 use Rattle.voice.specs.declared.Voice.{Voice}
 use Rattle.voice.specs.Answers.{state_fits}
 use Rattle.voice_render.specs.declared.Rendered.{Rendered}
@@ -32,7 +35,8 @@ use Rattle.voice_render.proofs.Kept.{render_keeps}
 use Rattle.voice_render.proofs.Switch.{fits_as_given, render_switch}
 use Rattle.identity.specs.declared.Ready.{Ready}
 use Rattle.identity.specs.declared.Playing.{Playing}
-use Rattle.identity.specs.Identity.{built_in, parameters_of, silence, set_up_for, block_played, blocks_played}
+use Rattle.identity.specs.declared.Tables.{Tables}
+use Rattle.identity.specs.Identity.{parameters_of, silence, set_up_for, block_played, blocks_played}
 use Rattle.identity.specs.Hash.{hash_basis, hashed_samples}
 use Rattle.identity.specs.Identity.{after, note_played, notes_played, identity_of}
 use Rattle.identity.proofs.Refused.{voice_made, voice_taken, lfo_made, lfo_taken, patch_taken, modulations_taken}
@@ -84,33 +88,37 @@ pub record Plain (v : Voice) : Type 0 where
   pub fits : T (state_fits v)
   pub off : v.transposing ≡ false
 
+-- any block leaves such a voice
+render_plain : (pairs high low : List Float) (v : Voice) (p : VoiceParameters) (block : List Float) → Plain v
+    → Plain (voice_rendered (render_answer pairs high low v p block).answer)
+render_plain pairs high low v p block t = record {
+  fits = (render_keeps v t.fits pairs high low p block).0;
+  off = render_switch pairs high low v p block ∙ t.off;
+}
+
 -- neither 9 nor 8 nor 7
-render_is : (v : Voice) (p : VoiceParameters) → Plain v → parameters_fit p ≡ true
-    → (r : Rendered) × ((render_answer built_in.pairs built_in.high built_in.low v p silence).answer ≡ Ok r)
+render_is : (pairs high low : List Float) (v : Voice) (p : VoiceParameters) (block : List Float) → Plain v
+    → block_fits (length block) ≡ true → parameters_fit p ≡ true
+    → (r : Rendered) × ((render_answer pairs high low v p block).answer ≡ Ok r)
 unfolding render_answer
-render_is v p t fit =
+render_is pairs high low v p block t size fit =
     let asked = fits_as_given v p (ap (λ (b : Bool). b && v.has_patch) t.off) in
-    rw (is_true (state_fits v) t.fits, silence_fits, asked, fit) (go v.dirty)
+    rw (is_true (state_fits v) t.fits, size, asked, fit) (go v.dirty)
   where
     go : (b : Bool)
         → (r : Rendered)
-        × ((cond b (blank (set_up built_in.high built_in.low v) silence)
-        (sounding (sounded built_in.pairs built_in.high built_in.low v (played_by v p) silence))).answer ≡ Ok r)
+        × ((cond b (blank (set_up high low v) block) (sounding (sounded pairs high low v (played_by v p) block))).answer
+        ≡ Ok r)
     go true = (_, refl)
     go false = (_, refl)
 
--- and any block leaves such a voice
-render_goes : (v : Voice) (p : VoiceParameters) → Plain v → parameters_fit p ≡ true
-    → let answer = (render_answer built_in.pairs built_in.high built_in.low v p silence).answer in
+render_goes : (pairs high low : List Float) (v : Voice) (p : VoiceParameters) (block : List Float) → Plain v
+    → block_fits (length block) ≡ true → parameters_fit p ≡ true
+    → let answer = (render_answer pairs high low v p block).answer in
     Goes (is_ok answer) answer (λ r. Plain r.voice)
-render_goes v p t fit =
-    let answer = (render_answer built_in.pairs built_in.high built_in.low v p silence).answer in
-    let k = render_is v p t fit in
-    let kept : Plain (voice_rendered answer) =
-    record {
-      fits = (render_keeps v t.fits built_in.pairs built_in.high built_in.low p silence).0;
-      off = render_switch built_in.pairs built_in.high built_in.low v p silence ∙ t.off;
-    } in
+render_goes pairs high low v p block t size fit =
+    let k = render_is pairs high low v p block t size fit in
+    let kept = render_plain pairs high low v p block t in
     record {
       all = ap (λ a. is_ok a) k.1;
       value = k.0;
@@ -125,16 +133,23 @@ pub record Playable (s : Playing) : Type 0 where
   pub voice : Plain s.voice
   pub lfo : Tame s.motion.lfo
 
-module _ (note : Float) (key : KeyFits note) where
-  set_up_goes : (v : Voice) → Plain v → Goes (set_up_answered built_in v note) (set_up_for built_in v note) Plain
+-- the LFO's sine is the built-in one, the voice's tables are any
+abbrev pub sine_with : List Float → List Float → List Float → Tables
+sine_with pairs high low = record { lut = lut_sine; pairs = pairs; high = high; low = low }
+
+module _ (pairs high low : List Float) (note : Float) (key : KeyFits note) where
+  abbrev tables : Tables
+  tables = sine_with pairs high low
+
+  set_up_goes : (v : Voice) → Plain v → Goes (set_up_answered tables v note) (set_up_for tables v note) Plain
   unfolding set_up_answered set_up_for decimal minus_decimal le lt
   set_up_goes v t =
-      let g = render_goes v (parameters_of note false (decimal 0 0) (decimal 0 0)) t
+      let g = render_goes pairs high low v (parameters_of note false (decimal 0 0) (decimal 0 0)) silence t silence_fits
       (parameters_fit_lem note _ _ false key refl refl) in
       record { all = g.all; value = g.value.voice; there = rw g.there refl; has = g.has }
 
   block_goes : (gate : Bool) (s : Playing) → Playable s
-      → Goes (block_answered built_in note gate s) (block_played built_in note gate s) Playable
+      → Goes (block_answered tables note gate s) (block_played tables note gate s) Playable
   unfolding block_answered block_played
   block_goes gate s t =
       let m = settled lut_sine (stepped s.motion.lfo s.motion.state (decimal 64 0)) in
@@ -142,8 +157,8 @@ module _ (note : Float) (key : KeyFits note) where
       let pitch = pitch_within m.lfo step.1 in
       let amp = amp_within m.lfo step.1 in
       let p = parameters_of note gate (pitch_mod_of m.lfo) (amp_mod_of m.lfo) in
-      let block = (render_answer built_in.pairs built_in.high built_in.low s.voice p silence).block in
-      let g = render_goes s.voice p t.voice
+      let block = (render_answer pairs high low s.voice p silence).block in
+      let g = render_goes pairs high low s.voice p silence t.voice silence_fits
       (parameters_fit_lem note _ _ gate key (is_true _ pitch.1) (is_true _ amp.1)) in
       record {
         all = rw (step.0, pitch.0, amp.0, g.there) refl;
@@ -155,7 +170,7 @@ module _ (note : Float) (key : KeyFits note) where
   -- ---- so many blocks
 
   blocks_go : (gate : Bool) (n : ℕ) (s : Playing) → Playable s
-      → Goes (blocks_answered built_in note gate n s) (blocks_played built_in note gate n s) Playable
+      → Goes (blocks_answered tables note gate n s) (blocks_played tables note gate n s) Playable
   unfolding blocks_answered blocks_played
   blocks_go gate zero s t = record { all = refl; value = s; there = refl; has = t }
   blocks_go gate (suc n) s t =
@@ -165,7 +180,7 @@ module _ (note : Float) (key : KeyFits note) where
   -- ---- a note
 
   pub note_goes : (r : Ready) (hash : ℕ) → Plain r.voice → Tame r.lfo
-      → Goes (note_answered built_in r note hash) (note_played built_in r note hash) (λ h. ⊤)
+      → Goes (note_answered tables r note hash) (note_played tables r note hash) (λ h. ⊤)
   unfolding note_answered note_played
   note_goes r hash v l =
       let up = set_up_goes r.voice v in
@@ -186,13 +201,13 @@ keys_fit : KeyFits (decimal 36 0) × KeyFits (decimal 60 0) × KeyFits (decimal 
 unfolding decimal le lt
 keys_fit = (refl, refl, refl)
 
-notes_go : (r : Ready) → Plain r.voice → Tame r.lfo
-    → Goes (notes_answered built_in r) (notes_played built_in r) (λ h. ⊤)
+notes_go : (pairs high low : List Float) (r : Ready) → Plain r.voice → Tame r.lfo
+    → Goes (notes_answered (sine_with pairs high low) r) (notes_played (sine_with pairs high low) r) (λ h. ⊤)
 unfolding notes_answered notes_played
-notes_go r v l =
-    let one = note_goes (decimal 36 0) keys_fit.0 r hash_basis v l in
-    let two = note_goes (decimal 60 0) keys_fit.1 r one.value v l in
-    let three = note_goes (decimal 84 0) keys_fit.2 r two.value v l in
+notes_go pairs high low r v l =
+    let one = note_goes pairs high low (decimal 36 0) keys_fit.0 r hash_basis v l in
+    let two = note_goes pairs high low (decimal 60 0) keys_fit.1 r one.value v l in
+    let three = note_goes pairs high low (decimal 84 0) keys_fit.2 r two.value v l in
     then_goes _ _ one (then_goes _ _ two three)
 
 -- ---- what comes before the notes
@@ -215,7 +230,8 @@ module _ (p : Patch) (fits : patch_fits p ≡ true) (modulated : modulations_fit
   identity_goes =
       let ready = readied_is p fits modulated in
       let v : Plain (voice_taken p) = record { fits = voice_fits_lem p; off = voice_off p } in
-      let g = notes_go (record { voice = voice_taken p; lfo = restarted (lfo_taken p) }) v (ready_tame p modulated) in
+      let r : Ready = record { voice = voice_taken p; lfo = restarted (lfo_taken p) } in
+      let g = notes_go sine_pairs lut_pitch_ratio_high lut_pitch_ratio_low r v (ready_tame p modulated) in
       record {
         all = rw (ready_answered_lem, ready) g.all;
         value = g.value;
