@@ -114,18 +114,10 @@ fn digit(mark: Mark) -> char {
     }
 }
 
-// A block's marks; a refused one's are all as asked.
-fn marks_of(done: Result<Rendered, Refused<Voice>>) -> [Mark; 6] {
-    match done {
-        Ok(r) => r.marks,
-        Err(_) => [Mark::AsAsked; 6],
-    }
-}
-
 fn marked(to: Streams, text: &str, done: Result<Rendered, Refused<Voice>>) -> io::Result<()> {
     let mut line = Line::led_by(b"");
     line.put(text);
-    for mark in marks_of(done) {
+    for mark in voice_render::marks_told(&done) {
         line.put(digit(mark));
     }
     line.print(to)

@@ -6,7 +6,6 @@
 ghost use Rattle.std.specs.Prelude.{◌<◌};
 
 use dx_units_inner::Ratio;
-use dx_units_step::Mark;
 use judge_wire::{Answer, Fields};
 use operator::{Feedback, Operator};
 use patch::Patch;
@@ -219,25 +218,22 @@ fn render(entry: u8, fields: &mut Fields<'_>, kept: &mut Voice, out: &mut Answer
     }
 }
 
-// A refused block's marks are all as asked.
 fn put_number_and_marks(
     done: Result<Rendered, Refused<Voice>>,
     kept: &mut Voice,
     out: &mut Answer<'_>,
 ) {
-    let marks = match done {
+    match done {
         Ok(r) => {
             *kept = r.voice;
             out.byte(0);
-            r.marks
         }
         Err(e) => {
             *kept = e.state;
             out.byte(e.refusal.number());
-            [Mark::AsAsked; 6]
         }
-    };
-    for mark in &marks {
+    }
+    for mark in &voice_render::marks_told(&done) {
         judge_units::put_mark(out, *mark);
     }
 }

@@ -16,10 +16,10 @@ use Rattle.voice.specs.Answers.{state_fits}
 use Rattle.voice.proofs.States.{state_fits_lem}
 use Rattle.voice_render.specs.declared.VoiceParameters.{VoiceParameters}
 use Rattle.voice_render.specs.Block.{played_by, levels_for, marks_for, sounded}
-use Rattle.voice_render.specs.Answers.{block_fits, parameters_fit_for, render_answer}
+use Rattle.voice_render.specs.Answers.{block_fits, marks_told, parameters_fit_for, render_answer}
 use Rattle.voice_render.proofs.Blocks.{count_at_most_6, block_whole}
 use Rattle.voice_render.proofs.Alike.{answer_by}
-use Rattle.theorem_marks.specs.Marks.{marks_told, refused, untold, frequency_in, mark_in}
+use Rattle.theorem_marks.specs.Marks.{refused, untold, frequency_in, mark_in}
 use Rattle.theorem_marks.proofs.Levels.{all_as_asked_lem, marks_length, mark_of, mark_behind}
 
 -- an accepted block is empty where its quarters are

@@ -1,22 +1,14 @@
 -- The marks of a block in the words of document 02's request e. Definitions only.
 use Rattle.std.specs.Prelude.{ℕ, ◌/◌, Bool, cond, not, ◌&&◌, ◌||◌, List, eqb, leb, length, get_or, Float}
-use Rattle.std.specs.Prelude.{Result, Ok, Err}
-use Rattle.refusals.specs.declared.Refused.{Refused}
 use Rattle.dx_units_step.specs.declared.Mark.{Mark}
 use Rattle.dx_units_step.specs.declared.Mark.TheVariants.{AsAsked}
 use Rattle.dx_units_step.specs.Step.{mark_for}
-use Rattle.voice_levels.specs.Levels.{frequency_of, no_ratio, all_as_asked}
+use Rattle.voice_levels.specs.Levels.{frequency_of, no_ratio}
 use Rattle.voice.specs.declared.Voice.{Voice}
 use Rattle.voice.specs.Answers.{state_fits}
-use Rattle.voice_render.specs.declared.Rendered.{Rendered}
 use Rattle.voice_render.specs.declared.VoiceParameters.{VoiceParameters}
 use Rattle.voice_render.specs.Block.{played_by, begun}
 use Rattle.voice_render.specs.Answers.{block_fits, parameters_fit_for}
-
--- the marks that a block tells: a refusal has none, which says as asked
-abbrev pub marks_told : Result Rendered (Refused Voice) → List Mark
-marks_told (Ok r) = r.marks
-marks_told (Err e) = all_as_asked
 
 -- refused, with 9, 8 or 7
 unfoldable pub refused : Voice → VoiceParameters → List Float → Bool

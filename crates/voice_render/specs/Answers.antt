@@ -6,6 +6,7 @@ use Rattle.refusals.specs.declared.Refusal.TheVariants.{Parameter, BlockLength, 
 use Rattle.refusals.specs.declared.Refused.{Refused}
 use Rattle.refusals.specs.Answer.{refused}
 use Rattle.numbers.specs.F32.{decimal, minus_decimal}
+use Rattle.dx_units_step.specs.declared.Mark.{Mark}
 use Rattle.patch_limits.specs.Ranges.{between, note_fits, unit_fits}
 use Rattle.voice_levels.specs.Levels.{all_as_asked}
 use Rattle.voice.specs.declared.Voice.{Voice}
@@ -66,6 +67,11 @@ pub record Answered : Type 0 where
 -- what a call gave, with the block after it
 abbrev pub answered_by : Result Rendered (Refused Voice) → List Float → Answered
 answered_by answer block = record { answer = answer; block = block }
+
+-- the marks that a block tells, whatever it answered: a refused one says as asked of every operator
+abbrev pub marks_told : Result Rendered (Refused Voice) → List Mark
+marks_told (Ok r) = r.marks
+marks_told (Err e) = all_as_asked
 
 -- the voice that a caller goes on with
 abbrev pub voice_rendered : Result Rendered (Refused Voice) → Voice

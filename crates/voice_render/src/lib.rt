@@ -13,7 +13,7 @@ ghost use Rattle.voice_render.specs.Setup.{with_setup, set_up};
 ghost use Rattle.voice_render.specs.Block.{played_by, note_on, struck, begun, restarted, entering, after, sounded};
 ghost use Rattle.voice_render.specs.Block.{sounded_by};
 ghost use Rattle.voice_render.specs.Answers.{block_fits, parameters_fit, parameters_fit_for, checked, setup_answer};
-ghost use Rattle.voice_render.specs.Answers.{answered_by, render_answer};
+ghost use Rattle.voice_render.specs.Answers.{answered_by, marks_told, render_answer};
 
 use dx_units_step::Mark;
 use envelope_inner::Envelope;
@@ -42,6 +42,16 @@ pub struct VoiceParameters {
 pub struct Rendered {
     pub marks: [Mark; 6],
     pub voice: Voice,
+}
+
+// The marks that a block tells, whatever it answered: a refused one says as asked of every operator.
+pub fn marks_told(answer: &Result<Rendered, Refused<Voice>>) -> [Mark; 6]
+    ensures { result ≡ marks_told answer.now }
+{
+    match answer {
+        Ok(rendered) => rendered.marks,
+        Err(_) => voice_levels::all_as_asked(),
+    }
 }
 
 // What a setup gives: whether the voice was dirty, and the voice.
