@@ -11,7 +11,10 @@ pub fn put(out: &mut [u8], at: usize, b: &[u8])
     requires { at + length b.now ≤ length out.old }
     ensures { out.new ≡ paste out.old at b.now (length b.now) }
 {
-    out[at..at + b.len()].copy_from_slice(b);
+    // Stays: a loop. `copy_from_slice` makes an archive for C ask for `memmove`, which it did not need.
+    for (i, byte) in b.iter().enumerate() {
+        out[at + i] = *byte;
+    }
 }
 
 // The number at a place.

@@ -75,3 +75,8 @@ module _ (n q a : ℕ) (l : List Float) (h : q < 4) (w : length l ≡ 4 * n) (e 
   pub write_at : (new : List Float) → length new ≡ length (take (a + n - a) (drop a l))
       → split n 4 (put_mid a (a + n - a) l new) ≡ set (split n 4 l) q new
   write_at new f = let k : a + n - a ≡ n = omega arith in rw (k, e) (set_split n 4 q l new h w (f ∙ length_at))
+
+  -- what was copied aside is the quarter
+  pub aside_at : (aside : List Float) → take (length (take (a + n - a) (drop a l))) aside ≡ take (a + n - a) (drop a l)
+      → take n aside ≡ get_or (split n 4 l) q []
+  aside_at aside f = (rw length_at at f) ∙ read_at

@@ -32,14 +32,14 @@ unfolding chain_at
 taken_done g v first k n ls e en h = rw (← en, ← e, take_all k ls h) refl
 
 -- one more is put back: the rest makes of the operators what the whole chain makes of the first ones
-pub back_turn : (v w : Operators) (first k : ℕ) (ls : List Lane) (past : Lane) (o : Operator)
-    → put_all v (first + k) (drop k ls) ≡ w → k < length ls → o ≡ operator_of (get_or ls k past)
+pub back_turn : (v w : Operators) (first k j : ℕ) (ls : List Lane) (past : Lane) (o : Operator)
+    → put_all v (first + k) (drop k ls) ≡ w → k < length ls → o ≡ operator_of (get_or ls j past) → j ≡ k
     → put_all (record { operator = set v.operator (first + k) o; feedback_state = v.feedback_state }) (first + (k + 1))
     (drop (k + 1) ls) ≡ w
 unfolding put_all put_at
-back_turn v w first k ls past o e h eo =
+back_turn v w first k j ls past o e h eo same =
     let next : first + (k + 1) ≡ first + k + 1 = omega arith in
-    rw (next, add-one k, eo) (sym (ap (put_all v (first + k)) (drop-cons ls k past h)) ∙ e)
+    rw (next, add-one k, eo, same) (sym (ap (put_all v (first + k)) (drop-cons ls k past h)) ∙ e)
 
 pub back_done : (v w : Operators) (at k : ℕ) (ls : List Lane) → put_all v at (drop k ls) ≡ w → length ls ≤ k → v ≡ w
 unfolding put_all

@@ -4,7 +4,7 @@
 // feedback after the calls (`ran`).
 #![tactic(auto)]
 
-ghost use Rattle.std.specs.Prelude.{◌≡◌, ◌+◌, ◌*◌, ◌/◌, ◌%◌, ◌≤◌, ◌<◌, length};
+ghost use Rattle.std.specs.Prelude.{◌≡◌, ◌+◌, ◌*◌, ◌/◌, ◌%◌, ◌≤◌, ◌<◌, length, take};
 ghost use Rattle.operator.specs.Chain.{chain_of};
 ghost use Rattle.voice_block.specs.Quarters.{Quartered};
 ghost use Rattle.voice_block.specs.Calls.{Callable, Playable, chain_at, settled, desk, called, called_up_to};
@@ -38,6 +38,16 @@ fn start(quarter: u8, samples: usize) -> usize
     ensures { (result ≡ quarter * samples) × (result + samples ≤ 4 * samples) }
 {
     (quarter as usize) * samples
+}
+
+// A quarter to be read, copied aside: the block is lent to be written. Stays: a loop, for what `lent_bytes::put` says.
+fn copy_aside(quarter: &[f32], aside: &mut [f32])
+    requires { length quarter.now ≤ length aside.old }
+    ensures { take (length quarter.now) aside.new ≡ quarter.now }
+{
+    for i in 0..quarter.len() {
+        aside[i] = quarter[i];
+    }
 }
 
 impl Operators {
@@ -105,8 +115,7 @@ impl Operators {
         self.put_back(first, left);
     }
 
-    // A call of one operator that the quarter which it reads modulates. That is copied aside: the block is lent to be
-    // written.
+    // A call of one operator that the quarter which it reads modulates.
     fn run_external(&mut self, lent: &Lent, call: Call, aside: &mut [f32], block: &mut [f32])
         requires { Callable call × Quartered lent.now.samples block.old × (call.n ≡ 1)
             × (1 ≤ call.input) × (call.input < 3) × (lent.now.samples ≤ length aside.old) }
@@ -117,14 +126,13 @@ impl Operators {
         let first = call.first as usize;
         let from = start(call.output, samples);
         let read = start(call.input, samples);
-        let modulation = &mut aside[..samples];
-        modulation.copy_from_slice(&block[read..read + samples]);
+        copy_aside(&block[read..read + samples], aside);
         let chain = self.take_out(lent, first);
         let left = operator::render_external(
             lent.pairs,
             chain,
             call.add,
-            modulation,
+            &aside[..samples],
             &mut block[from..from + samples],
         );
         self.put_back(first, left);

@@ -9,7 +9,7 @@ pub loop-k-init : goal.loop-k-init
 loop-k-init g c = ap (λ (k : ℕ). put_all c.args.self.now k c.args.chain.lanes) (add-zero c.args.first)
 
 pub loop-k-preserved : goal.loop-k-preserved
-loop-k-preserved g c = back_turn _ _ _ _ _ _ _ c.loop-k.invariant (omega arith) c.leave.ensures
+loop-k-preserved g c = back_turn _ _ _ _ _ _ _ _ c.loop-k.invariant (omega arith) c.leave.ensures (omega arith)
 
 pub returns : goal.returns
 unfolding settled
