@@ -32,24 +32,51 @@ pub fn answer(entry: u8, fields: &mut Fields<'_>, kept: &mut Motion, out: &mut A
             keep_lfo(lfo::set(kept.lfo, modulations), kept, out);
         }
         0x63 => keep_lfo(lfo::reset(kept.lfo), kept, out),
-        0x64 => keep(lfo::step(*kept, fields.float()), kept, out),
-        0x65 => keep(lfo::scrub(*kept, fields.float()), kept, out),
-        0x66 => put_read(out, lfo::value(kept.lfo)),
+        0x64 => keep(step(*kept, fields.float()), kept, out),
+        0x65 => keep(scrub(*kept, fields.float()), kept, out),
+        0x66 => put_read(out, value(kept.lfo)),
         0x67 => put_read(out, lfo::delay_ramp(kept.lfo)),
         0x68 => put_read(out, lfo::pitch_mod(kept.lfo)),
         0x69 => put_read(out, lfo::amp_mod(kept.lfo)),
-        0x6a => keep(
-            lfo::step_with(&sine::lut_sine(), *kept, fields.float()),
-            kept,
-            out,
-        ),
-        0x6b => keep(
-            lfo::scrub_with(&sine::lut_sine(), *kept, fields.float()),
-            kept,
-            out,
-        ),
-        _ => put_read(out, lfo::value_with(&sine::lut_sine(), kept.lfo)),
+        0x6a => keep(step_with(*kept, fields.float()), kept, out),
+        0x6b => keep(scrub_with(*kept, fields.float()), kept, out),
+        _ => put_read(out, value_with(kept.lfo)),
     }
+}
+
+// Stays: a function for each call that has the sine's table among its locals, since a function clears all of its locals
+// each time; in one function every entry paid for six tables.
+#[inline(never)]
+fn step(motion: Motion, scale: f32) -> Result<Motion, Refused<Motion>> {
+    lfo::step(motion, scale)
+}
+
+#[inline(never)]
+fn scrub(motion: Motion, sample: f32) -> Result<Motion, Refused<Motion>> {
+    lfo::scrub(motion, sample)
+}
+
+#[inline(never)]
+fn value(lfo: Lfo) -> Result<f32, Refusal> {
+    lfo::value(lfo)
+}
+
+#[inline(never)]
+fn step_with(motion: Motion, scale: f32) -> Result<Motion, Refused<Motion>> {
+    let lut = sine::lut_sine();
+    lfo::step_with(&lut, motion, scale)
+}
+
+#[inline(never)]
+fn scrub_with(motion: Motion, sample: f32) -> Result<Motion, Refused<Motion>> {
+    let lut = sine::lut_sine();
+    lfo::scrub_with(&lut, motion, sample)
+}
+
+#[inline(never)]
+fn value_with(lfo: Lfo) -> Result<f32, Refusal> {
+    let lut = sine::lut_sine();
+    lfo::value_with(&lut, lfo)
 }
 
 // An LFO that was made, set or reset: the generator's number stays.

@@ -122,12 +122,13 @@ pub fn read_plan(fields: &mut Fields<'_>) -> Plan {
 }
 
 fn read_call(fields: &mut Fields<'_>) -> Call {
+    let [first, n, input, output, add] = fields.bytes::<5>();
     Call {
-        first: fields.byte(),
-        n: fields.byte(),
-        input: fields.byte(),
-        output: fields.byte(),
-        add: fields.flag(),
+        first,
+        n,
+        input,
+        output,
+        add: add != 0,
     }
 }
 

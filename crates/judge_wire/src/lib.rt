@@ -2,6 +2,9 @@
 // what is read stand zeros, and past the end of what is written nothing is written.
 #![tactic(auto)]
 
+ghost use Rattle.std.specs.Prelude.{◌≡◌};
+ghost use Rattle.std.specs.Result.{result_unwrap_or};
+
 use refusals::{Refusal, Refused};
 
 // What is read: each method takes what it answers from the front.
@@ -27,7 +30,12 @@ impl<'a> Fields<'a> {
         self.byte() != 0
     }
 
+    // Stays: all at once where they are there, else byte by byte, which takes twice as long.
     pub fn bytes<const N: usize>(&mut self) -> [u8; N] {
+        if let Some((bytes, rest)) = self.rest.split_first_chunk() {
+            self.rest = rest;
+            return *bytes;
+        }
         let mut bytes = [0; N];
         for b in bytes.iter_mut() {
             *b = self.byte();
@@ -101,7 +109,16 @@ impl<'a> Answer<'a> {
         self.byte(u8::from(b));
     }
 
+    // Stays: all at once where there is room for all, as above.
     pub fn bytes(&mut self, bytes: &[u8]) {
+        let end = self.at.saturating_add(bytes.len());
+        if let Some(room) = self.out.get_mut(self.at..end) {
+            if room.len() == bytes.len() {
+                room.copy_from_slice(bytes);
+                self.at = end;
+                return;
+            }
+        }
         for b in bytes {
             self.byte(*b);
         }
@@ -152,7 +169,9 @@ impl<'a> Answer<'a> {
     }
 
     // The number of an answer likewise; the answer is its value, or zeros in its place.
-    pub fn value<T: Copy>(&mut self, done: Result<T, Refusal>, zeros: T) -> T {
+    pub fn value<T: Copy>(&mut self, done: Result<T, Refusal>, zeros: T) -> T
+        ensures { result ≡ result_unwrap_or done zeros }
+    {
         match done {
             Ok(value) => {
                 self.byte(0);
