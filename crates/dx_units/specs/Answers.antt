@@ -1,6 +1,7 @@
 -- What each conversion's entry answers: a value, or a refusal. Definitions only, all to be
 -- believed.
 use Rattle.std.specs.Prelude.{Bool, ◌&&◌, cond, ℕ, Float, Result, Ok, Err}
+use Rattle.std.specs.Result.{result_and}
 use Rattle.units.specs.Tables.{lut_pitch_ratio_high, lut_pitch_ratio_low}
 use Rattle.dx_units_inner.specs.declared.Increments.{Increments}
 use Rattle.dx_units_inner.specs.declared.Ratio.{Ratio}
@@ -30,7 +31,7 @@ parameter_checked fits value = cond fits (Ok value) (Err Parameter)
 
 -- a field and a parameter: the field first
 abbrev pub both_checked : {A : Type 0} → Bool → Bool → A → Result A Refusal
-both_checked field parameter value = cond field (parameter_checked parameter value) (Err Field)
+both_checked field parameter value = result_and (field_checked field value) (parameter_checked parameter value)
 
 -- the largest numbers of a frequency
 unfoldable pub frequency_fits : ℕ → ℕ → ℕ → ℕ → Bool

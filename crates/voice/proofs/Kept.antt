@@ -163,11 +163,15 @@ module _ (v : Voice) (t : T (state_fits v)) where
       rw (is_true (state_fits v) t)
       (go (patch_fits p) refl (compiled v.operators table p.algorithm) (compiles v.operators table p.algorithm))
     where
+      -- a refusal leaves the voice as it was
+      same : (w : Voice) → w ≡ v → T (state_fits w)
+      same w e = subst (λ (u : Voice). T (state_fits u)) (sym e) t
+
       go : (b : Bool) → patch_fits p ≡ b → (c : Result Compiled Refusal) → Compiles v.operators c
           → Kept (loaded v p (cond b c (Err Field)))
       go true f (Ok c) k = (with_patch_fits p c.row c.plan (subst T (sym f) tt) k, tt)
-      go true f (Err e) k = (t, k)
-      go false f c k = (t, tt)
+      go true f (Err e) k = (same _ (first_of (cc, simp f)), k)
+      go false f c k = (same _ (first_of (cc, simp f)), tt)
 
   pub take_patch_keeps : Kept (take_patch_answer v)
   unfolding take_patch_answer

@@ -4,6 +4,7 @@ use mathlib.Core.Path.{◌≡◌, refl}
 use mathlib.Core.Bool.{Bool, true, false, cond}
 use mathlib.Core.List.{List}
 use Prim.Native.Nat.{ℕ}
+use native.Mathlib.Omega.{arith}
 use lib.Ieee.{Float}
 use Rattle.std.specs.Prelude.{Result, Ok, Err}
 use Rattle.refusals.specs.declared.Refusal.{Refusal}
@@ -41,7 +42,7 @@ module _ (v : Voice) where
       go : (a : Bool) (c : Result Compiled Refusal)
           → (state_after (cond a (loaded v p c) (refused ForeignState v))).transposing ≡ v.transposing
       go true (Ok c) = refl
-      go true (Err refusal) = refl
+      go true (Err refusal) = first_of (cc, grind arith)
       go false c = refl
 
   pub take_patch_switch : (state_after (take_patch_answer v)).transposing ≡ v.transposing

@@ -13,4 +13,4 @@ returns c =
     passed_rest c.args.r c.args.piece.now c.min-n.result
     c.pass_all-q.result _ c.requires (omega arith)
     (omega (arith, c.min-n.ensures, c.saturating_sub.ensures)) c.pass_all-q.ensures
-    c.saturating_add.ensures
+    (omega arith)
