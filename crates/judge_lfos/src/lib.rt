@@ -32,9 +32,9 @@ pub fn answer(entry: u8, fields: &mut Fields<'_>, kept: &mut Motion, out: &mut A
             keep_lfo(lfo::set(kept.lfo, modulations), kept, out);
         }
         0x63 => keep_lfo(lfo::reset(kept.lfo), kept, out),
-        0x64 => keep(step(*kept, fields.float()), kept, out),
-        0x65 => keep(scrub(*kept, fields.float()), kept, out),
-        0x66 => put_read(out, value(kept.lfo)),
+        0x64 => keep(lfo::step(*kept, fields.float()), kept, out),
+        0x65 => keep(lfo::scrub(*kept, fields.float()), kept, out),
+        0x66 => put_read(out, lfo::value(kept.lfo)),
         0x67 => put_read(out, lfo::delay_ramp(kept.lfo)),
         0x68 => put_read(out, lfo::pitch_mod(kept.lfo)),
         0x69 => put_read(out, lfo::amp_mod(kept.lfo)),
@@ -44,23 +44,8 @@ pub fn answer(entry: u8, fields: &mut Fields<'_>, kept: &mut Motion, out: &mut A
     }
 }
 
-// Stays: a function for each call that has the sine's table among its locals, since a function clears all of its locals
-// each time; in one function every entry paid for six tables.
-#[inline(never)]
-fn step(motion: Motion, scale: f32) -> Result<Motion, Refused<Motion>> {
-    lfo::step(motion, scale)
-}
-
-#[inline(never)]
-fn scrub(motion: Motion, sample: f32) -> Result<Motion, Refused<Motion>> {
-    lfo::scrub(motion, sample)
-}
-
-#[inline(never)]
-fn value(lfo: Lfo) -> Result<f32, Refusal> {
-    lfo::value(lfo)
-}
-
+// Stays: a function for each call that is lent the sine's table, since a function clears the room of its tables at its
+// start, whichever arm it takes; in one function every entry paid for three.
 #[inline(never)]
 fn step_with(motion: Motion, scale: f32) -> Result<Motion, Refused<Motion>> {
     let lut = sine::lut_sine();

@@ -74,8 +74,15 @@ fn converted_field(entry: u8, field: u8) -> Result<f32, Refusal> {
 fn value(entry: u8, fields: &mut Fields<'_>) -> f32 {
     match entry {
         0x30 => dx_units::pow_2_fast(fields.float(), numbers::u32_as_i32(fields.word())),
-        0x3e => sine_at(fields.float()),
-        0x3f => sine_pm_at(fields.word(), fields.float()),
+        0x3e => {
+            let phase = fields.float();
+            in_lut_sine(|lut| sine::sine(lut, phase))
+        }
+        0x3f => {
+            let phase = fields.word();
+            let pm = fields.float();
+            in_sine_pairs(|pairs| sine::sine_pm(pairs, phase, pm))
+        }
         0x40 => units::semitones_to_ratio_safe(fields.float()),
         0x42 | 0x43 => interpolate(entry == 0x43, fields),
         _ => table_entry(fields.byte(), fields.word()),
@@ -87,54 +94,38 @@ fn frequency_ratio(fields: &mut Fields<'_>) -> Result<Ratio, Refusal> {
     dx_units::frequency_ratio(mode, coarse, fine, detune)
 }
 
-// Stays: a function for each of the long tables, since a function clears all of its locals each time; in one function
-// every entry paid for all tables.
+// Stays: a function for each of the long tables, since a function clears the room of its tables at its start, whichever
+// arm it takes; in one function every entry paid for all of them.
 #[inline(never)]
-fn sine_at(phase: f32) -> f32 {
+fn in_lut_sine<R: FnOnce(&[f32; 641]) -> f32>(read: R) -> f32
+    requires { R.IsAlwaysCallable read }
+{
     let lut = sine::lut_sine();
-    sine::sine(&lut, phase)
+    read(&lut)
 }
 
 #[inline(never)]
-fn sine_pm_at(phase: u32, pm: f32) -> f32 {
+fn in_sine_pairs<R: FnOnce(&[f32; 1024]) -> f32>(read: R) -> f32
+    requires { R.IsAlwaysCallable read }
+{
     let pairs = sine::sine_pairs();
-    sine::sine_pm(&pairs, phase, pm)
+    read(&pairs)
 }
 
 #[inline(never)]
-fn lut_sine_entry(place: usize) -> f32 {
-    let lut = sine::lut_sine();
-    at(&lut, place)
-}
-
-#[inline(never)]
-fn lut_high_entry(place: usize) -> f32 {
+fn in_lut_high<R: FnOnce(&[f32; 256]) -> f32>(read: R) -> f32
+    requires { R.IsAlwaysCallable read }
+{
     let high = units::lut_pitch_ratio_high();
-    at(&high, place)
+    read(&high)
 }
 
 #[inline(never)]
-fn lut_low_entry(place: usize) -> f32 {
+fn in_lut_low<R: FnOnce(&[f32; 256]) -> f32>(read: R) -> f32
+    requires { R.IsAlwaysCallable read }
+{
     let low = units::lut_pitch_ratio_low();
-    at(&low, place)
-}
-
-#[inline(never)]
-fn in_lut_sine(wraps: bool, index: f32, size: f32) -> f32 {
-    let lut = sine::lut_sine();
-    interpolate_in(&lut, wraps, index, size)
-}
-
-#[inline(never)]
-fn in_lut_high(wraps: bool, index: f32, size: f32) -> f32 {
-    let high = units::lut_pitch_ratio_high();
-    interpolate_in(&high, wraps, index, size)
-}
-
-#[inline(never)]
-fn in_lut_low(wraps: bool, index: f32, size: f32) -> f32 {
-    let low = units::lut_pitch_ratio_low();
-    interpolate_in(&low, wraps, index, size)
+    read(&low)
 }
 
 // A lookup in one of the three long tables.
@@ -143,9 +134,9 @@ fn interpolate(wraps: bool, fields: &mut Fields<'_>) -> f32 {
     let index = fields.float();
     let size = fields.float();
     match table {
-        0 => in_lut_sine(wraps, index, size),
-        1 => in_lut_high(wraps, index, size),
-        _ => in_lut_low(wraps, index, size),
+        0 => in_lut_sine(|lut| interpolate_in(lut, wraps, index, size)),
+        1 => in_lut_high(|high| interpolate_in(high, wraps, index, size)),
+        _ => in_lut_low(|low| interpolate_in(low, wraps, index, size)),
     }
 }
 
@@ -161,9 +152,9 @@ fn interpolate_in(table: &[f32], wraps: bool, index: f32, size: f32) -> f32 {
 fn table_entry(table: u8, index: u32) -> f32 {
     let place = index as usize;
     match table {
-        0 => lut_sine_entry(place),
-        1 => lut_high_entry(place),
-        2 => lut_low_entry(place),
+        0 => in_lut_sine(|lut| at(lut, place)),
+        1 => in_lut_high(|high| at(high, place)),
+        2 => in_lut_low(|low| at(low, place)),
         3 => dx_units::amp_mod_sensitivity(index.min(255) as u8).unwrap_or(0.0),
         4 => dx_units::pitch_mod_sensitivity(index.min(255) as u8).unwrap_or(0.0),
         5 => at(&dx_units::lut_coarse(), place),
