@@ -95,7 +95,7 @@ fn frequency_ratio(fields: &mut Fields<'_>) -> Result<Ratio, Refusal> {
 }
 
 // Stays: a function for each of the long tables, since a function clears the room of its tables at its start, whichever
-// arm it takes; in one function every entry paid for all of them.
+// arm it takes; in one function an entry paid for the tables of others too.
 #[inline(never)]
 fn in_lut_sine<R: FnOnce(&[f32; 641]) -> f32>(read: R) -> f32
     requires { R.IsAlwaysCallable read }

@@ -73,7 +73,7 @@ impl Line {
     }
 
     // To standard output, by one call, so that the lines of several processes do not mix. It is empty afterwards, for
-    // the next line: clearing its room takes as long as writing to it.
+    // the next line, whose room need not be cleared again.
     pub fn print(&mut self, to: Streams) -> io::Result<()> {
         self.push(b"\n");
         let size = self.size;
